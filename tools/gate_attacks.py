@@ -519,6 +519,29 @@ def in_their_turn():
     return '200 in their order'
 
 
+def finished_by_a_line():
+    """The calls of one line that finish a transaction give its seat to the next program, also where they are refused."""
+    with Place('--seats', '1') as place:
+        program, other = place.talk(), place.talk()
+        for line, answer, total in (('keep n bump 2; n read', 'done; total 3; kept ', 3), ('do n bump 4; nobody bump 1', 'refused 6 ', 3)):
+            assert program.ask('begin').startswith('begun')
+            expect(program.ask('call n bump 1'), 'done', 'a call')
+            other.send('do n read\n')
+            expect(other.line(0.2), None, 'a second transaction on one seat')
+            assert program.ask(line).startswith(answer), line
+            assert (other.line(5) or '').startswith('total %d; place ' % total), line
+            assert program.ask('commit').startswith('refused 10 '), 'still open'
+        expect(program.ask('kept'), 'kept', 'the last commit')
+        assert program.ask('begin').startswith('begun')
+        assert program.ask('keep n bonp 1').startswith('error NotUnderstood')
+        other.send('do n read\n')
+        expect(other.line(0.2), None, 'a line that was not understood has ended the transaction')
+        expect(program.ask('abort'), 'aborted', 'it is open still')
+        assert other.line(5).startswith('total 3; place ')
+        place.end_gate()
+    return 'by calls that are kept, and by some that are refused'
+
+
 def none_is_passed_over():
     """A program that asks without an end, and many lines at once, holds up nobody: others have a turn between its transactions."""
     with Place('--seats', '1') as place:
@@ -1358,7 +1381,7 @@ def noise():
 
 ATTACKS = [
     the_same_answers, lines_in_pieces, long_lines, all_at_once, commits_of_one_program, nobody_is_given_anothers,
-    a_thousand_programs, in_their_turn, none_is_passed_over, who_goes_waits_no_more, killed_in_a_transaction, deaf_programs,
+    a_thousand_programs, in_their_turn, finished_by_a_line, none_is_passed_over, who_goes_waits_no_more, killed_in_a_transaction, deaf_programs,
     a_commit_behind_one_that_is_deaf, slow_readers, idle_programs, idle_at_the_server, none_keeps_it_busy,
     a_server_that_is_killed, a_commit_that_is_not_kept, a_failed_disk_is_told, no_server, a_server_with_no_room,
     seats_that_the_server_lets_go, seats_that_nobody_wants, a_gate_that_is_killed, two_gates, a_gate_that_is_told_to_end,
@@ -1379,6 +1402,8 @@ WRONG = [
     (a_thousand_programs, 'gate.h', 'PROGRAMS = 1024', 'PROGRAMS = 1000'),
     (in_their_turn, 'lines.c', 'TAILQ_INSERT_TAIL(&gate.waiting', 'TAILQ_INSERT_HEAD(&gate.waiting'),
     (in_their_turn, 'seats.c', '    if (seat->state != SERVING || seat->holder != NULL', '    if (seat->state != SERVING'),
+    (finished_by_a_line, 'seats.c', '(has_calls && !is_of_line)', '(has_calls && !is_refused)'),
+    (finished_by_a_line, 'seats.c', 'int is_of_line = begins(head, "error ")', 'int is_of_line = 0'),
     (none_is_passed_over, 'lines.c', 'if (is_through(program) && !TAILQ_EMPTY(&gate.waiting))', 'if (0)'),
     (who_goes_waits_no_more, 'programs.c', 'events & (EPOLLHUP | EPOLLERR)', 'events & EPOLLERR'),
     (killed_in_a_transaction, 'seats.c', '} else if (seat->is_open) {', '} else if (0) {'),

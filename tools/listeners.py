@@ -151,6 +151,57 @@ def killed_in_a_transaction():
     return f'{TIMES} clients'
 
 
+def finished_by_a_line():
+    """A worker that holds a job writes its result and commits in one line, all or nothing, and the server is killed behind the answer."""
+    place = Place()
+    place.serve()
+    with boost.join(place.door) as store:
+        for kind, name in (('set', 'jobs'), ('map', 'results'), ('counter', 'hits')):
+            store.make(kind, name)
+        store.do(*(('jobs', 'add', job) for job in (7, 8, 9)), keep=True)
+        other = boost.join(place.door).session()
+        worker = boost.join(place.door).session()
+        assert worker.lines(['begin', 'call jobs remove 7', 'call hits bump 1'])[1:] == ['yes', 'done']
+        assert worker.lines(['keep results put 7 ab; hits bump 1; later hits bump 1'])[0].startswith('nothing; done; done; kept ')
+        assert worker.lines(['commit', 'do hits read'])[0] == 'refused 10 NoSuchTxn'
+        assert other.lines(['begin', 'call hits read'])[1] == 'total 3'
+        worker.lines(['begin', 'call jobs remove 8'])
+        began = time.monotonic()
+        assert worker.lines(['keep results put 8 cd; hits bump 1'])[0].startswith('refused 9 Busy')
+        assert time.monotonic() - began < 1, 'a line that is in another one\'s way has waited'
+        assert worker.lines(['commit', 'do jobs contains 8; results get 8'])[0] == 'refused 10 NoSuchTxn'
+        assert worker.line('do jobs contains 8; results get 8')[:2] == [True, None], 'a part of a refused transaction is left'
+        worker.lines(['begin', 'call jobs remove 8'])
+        assert worker.lines(['within 5 do hits bump 1']) == ['refused 25 AlreadyLive']
+        try_in_python(store, other)
+        place.server.kill()
+        place.server.wait()
+    shown = run('show', place.disk)
+    assert shown.startswith('set jobs\n  8\nmap results\n  7 ab\n  9 78\n') and shown.endswith('counter hits\n  4\n'), shown
+    return 'kept, and taken back where it is refused'
+
+
+def try_in_python(store, other):
+    """The same of the client in Python, while another client has read the counter."""
+    with store.transaction() as t:
+        t.call('jobs', 'remove', 9)
+        connection = t._connection
+        try:
+            t.finish(('results', 'put', 9, b'x'), ('hits', 'bump', 1))
+            raise AssertionError('nobody was in its way')
+        except boost.Busy:
+            assert not t._is_open and connection.state != boost.connections.CLOSED, 'the client was let go'
+    assert store.do(('jobs', 'contains', 9)) == [True]
+    other.line('abort')
+    with store.transaction() as t:
+        assert t.finish(('jobs', 'remove', 9), ('results', 'put', 9, b'x'), ('hits', 'bump', 1)) == [True, None, None]
+        assert t.place is not None
+    assert store.do(('results', 'get', 9)) == [b'x']
+    with store.transaction(keep=False) as t:
+        long = [('results', 'put', number, bytes(256)) for number in range(20, 40)]
+        assert t.finish(*long) == [None] * 20
+
+
 def killed_in_a_line():
     """What a client leaves in the middle of a line is never read with a line of the next one."""
     place = Place()
@@ -786,13 +837,52 @@ def a_long_value_in_c():
     return '1,024 bytes'
 
 
+TRIED_ONCE = """
+#include "boost.h"
+#include <stdio.h>
+int main(int count, char **words)
+{
+    struct boost *one = boost_join(words[count - 1]), *other = boost_join(words[count - 1]);
+    boost_ask(one, "make counter hits");
+    boost_ask(one, "make set jobs");
+    boost_ask(one, "keep jobs add 7");
+    boost_ask(one, "begin");
+    boost_ask(one, "call hits read");
+    boost_ask(other, "begin");
+    boost_ask(other, "call jobs remove 7");
+    printf("%d ", boost_refusal(boost_try(other, 5, "keep hits bump 1")));
+    boost_ask(one, "abort");
+    printf("%d ", boost_refusal(boost_try(other, 5, "keep hits bump 2")));
+    printf("%.3s ", boost_ask(other, "do jobs contains 7"));
+    printf("%.7s\\n", boost_ask(other, "do hits read"));
+    return boost_close(one) + boost_close(other);
+}
+"""
+
+
+def tried_once_in_c():
+    """boost_try asks a line once that is to finish a transaction: again it would be one of its own, without the job."""
+    place = Place()
+    source, built = (os.path.join(place.room.name, name) for name in ('once.c', 'once'))
+    with open(source, 'w', encoding='utf-8') as file:
+        file.write(TRIED_ONCE)
+    folder = os.path.join(TOP, 'clients/c')
+    said('cc', '-Wall', '-Wextra', '-Werror', '-I', folder, '-o', built, source, os.path.join(folder, 'boost.c'))
+    place.serve()
+    began = time.monotonic()
+    assert said(built, place.door) == '9 0 yes total 2\n'
+    assert time.monotonic() - began < 4
+    place.end()
+    return 'refused at once'
+
+
 def main():
     for check in (the_docs_of_the_client, threads_of_one_program, programs_that_come_and_go, killed_in_a_transaction,
-                  killed_in_a_line, goodbye_behind_lines, hostile_at_the_door, deaf_at_the_door, passed_over,
+                  finished_by_a_line, killed_in_a_line, goodbye_behind_lines, hostile_at_the_door, deaf_at_the_door, passed_over,
                   met_as_the_door_opens, idle_over_input,
                   idle_at_the_door, slow_lines, woken_as_lines_come, a_crowd, ended_with_clients, killed_servers,
                   how_the_store_stands, deaf_parent, keeping_fails, a_shell, the_examples_in_python, the_examples_in_c,
-                  a_long_value_in_c):
+                  a_long_value_in_c, tried_once_in_c):
         if not sys.argv[3:] or check.__name__ in sys.argv[3:]:
             print(f'{check.__name__}: {check()}', flush=True)
 

@@ -19,7 +19,8 @@
 #include <time.h>
 #include <unistd.h>
 
-enum { LONGEST = 4095, MOST_SECONDS = 86400, BUSY = 9, TOO_MANY_LIVE = 12, BACKLOG = 14, PIECE = 4096 };
+enum { LONGEST = 4095, MOST_SECONDS = 86400, PIECE = 4096 };
+enum { NO_MEMORY = 4, BUSY = 9, NO_SUCH_TXN = 10, TOO_MANY_LIVE = 12, BACKLOG = 14, ALREADY_LIVE = 25 };   /* refusals */
 
 /* What each line of a server begins with that is of no client. */
 static const char NOBODY[] = "- ";
@@ -32,6 +33,7 @@ struct boost {
     pid_t child;       /* the server, where it is a child; else 0 */
     pid_t owner;       /* the process that made the client */
     int timeout;       /* seconds for an answer; 0: for ever */
+    int is_open;       /* a transaction is, or may be */
     char *bytes;       /* what was read and not used yet, behind the last answer, and the room for it */
     size_t used, held, room;
 };
@@ -158,6 +160,24 @@ static double end_of(const struct boost *store)
     return store->timeout > 0 ? now() + store->timeout : 0;
 }
 
+static int begins(const char *text, const char *with)
+{
+    return strncmp(text, with, strlen(with)) == 0;
+}
+
+/* Notes whether a transaction is open behind the answer to a line. Calls that were refused have taken it back, but where the whole line
+ * was refused before them. */
+static void note_open(struct boost *store, const char *line, const char *answer)
+{
+    int refusal = boost_refusal(answer), has_calls = begins(line, "do ") || begins(line, "keep ");
+    int is_end = has_calls || begins(line, "keep\n") || begins(line, "commit\n") || begins(line, "abort\n");
+    int is_taken_back = has_calls && refusal > 0 && refusal != NO_MEMORY && refusal != ALREADY_LIVE;
+    if (begins(answer, "begun "))
+        store->is_open = 1;
+    else if ((is_end && refusal == 0) || is_taken_back || refusal == NO_SUCH_TXN || begins(answer, "error Idle"))
+        store->is_open = 0;
+}
+
 /* Asks a line that may wait for so many thousandths of a second in the server, less than 0 where it does not. */
 static const char *ask(struct boost *store, long waits, const char *format, va_list words)
 {
@@ -182,7 +202,10 @@ static const char *ask(struct boost *store, long waits, const char *format, va_l
         end += (double)waits / 1000;
     if (write_within(store->to, line, (size_t)(tag + size + 1), end) != 0)
         return give_up(store, errno);
-    return next_line(store, end);
+    const char *answer = next_line(store, end);
+    if (answer != NULL)
+        note_open(store, line + tag, answer);
+    return answer;
 }
 
 const char *boost_ask(struct boost *store, const char *format, ...)
@@ -256,13 +279,14 @@ static void pause_for(unsigned microseconds)
 
 const char *boost_try(struct boost *store, int seconds, const char *format, ...)
 {
+    int is_once = store->is_open;                             /* asked again, the line would be a transaction of its own */
     double end = now() + seconds;
     for (unsigned pause = 200;; pause = pause < 50000 ? pause * 2 : pause) {
         va_list words;
         va_start(words, format);
         const char *answer = ask(store, -1, format, words);
         va_end(words);
-        if (answer == NULL || !boost_passes(boost_refusal(answer)) || now() > end)
+        if (answer == NULL || is_once || !boost_passes(boost_refusal(answer)) || now() > end)
             return answer;
         pause_for(pause);
     }

@@ -50,7 +50,12 @@ const char *boost_ask(struct boost *store, const char *format, ...) __attribute_
  * comes from elsewhere before it goes into a line: one with `; ` in it would bring a call of its own. Numbers and boost_hex are words. */
 int boost_is_word(const char *text);
 
-/* Asks again while another transaction is in the way, for so many seconds: for a `do` or a `keep` with calls. The last answer. */
+/* Asks again while another transaction is in the way, for so many seconds: for a `do` or a `keep` with calls that is a transaction of its
+ * own. The last answer.
+ *
+ * Where a transaction is open such a line finishes it: boost_ask(store, "keep results put %d %s", job, text) makes its calls, commits, and
+ * is answered once that is kept, all in one round trip. Refused, it has taken all of the transaction back. Then begin anew, as the same
+ * line would be a transaction of its own: so boost_try asks it once. */
 const char *boost_try(struct boost *store, int seconds, const char *format, ...) __attribute__((format(printf, 3, 4)));
 
 /* Asks a `do` or a `keep` with calls that waits in the server, for so many seconds at most, from 0 to 86,400: until no call is answered

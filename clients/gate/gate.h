@@ -50,7 +50,7 @@ struct watch {
     void (*ready)(struct watch *watch, uint32_t events);
 };
 
-enum verb { OTHER, BEGIN, CALL, COMMIT, KEEP, ABORT, MAKE, DO, WITHIN, KEPT, WAIT, STATUS, BYE };
+enum verb { OTHER, BEGIN, CALL, COMMIT, KEEP, ABORT, MAKE, DO, DO_AND_KEEP, WITHIN, KEPT, WAIT, STATUS, BYE };
 
 /* A line that the server has not answered yet; of no program where that is gone, and where the gate asks by itself. */
 struct asked {

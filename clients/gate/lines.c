@@ -37,7 +37,7 @@ static enum verb verb_of(const struct line *line)
         enum verb verb;
         int is_alone;
     } words[] = {
-        { "call", CALL, 0 }, { "do", DO, 0 }, { "within", WITHIN, 0 }, { "keep", KEEP, 0 }, { "begin", BEGIN, 1 }, { "commit", COMMIT, 1 },
+        { "call", CALL, 0 }, { "do", DO, 0 }, { "within", WITHIN, 0 }, { "keep", KEEP, 1 }, { "begin", BEGIN, 1 }, { "commit", COMMIT, 1 },
         { "later", CALL, 0 }, { "abort", ABORT, 1 }, { "wait", WAIT, 1 }, { "kept", KEPT, 1 }, { "make", MAKE, 0 },
         { "status", STATUS, 1 }, { "bye", BYE, 1 },
     };
@@ -45,6 +45,8 @@ static enum verb verb_of(const struct line *line)
         return OTHER;
     const char *space = memchr(line->text, ' ', line->size);
     size_t size = space == NULL ? line->size : (size_t)(space - line->text);
+    if (space != NULL && size == strlen("keep") && memcmp(line->text, "keep", size) == 0)
+        return DO_AND_KEEP;
     for (size_t i = 0; i < sizeof words / sizeof words[0]; i++)
         if (size == strlen(words[i].word) && memcmp(line->text, words[i].word, size) == 0)
             return words[i].is_alone && space != NULL ? OTHER : words[i].verb;

@@ -254,21 +254,31 @@ static void note_commit(struct seat *seat, struct program *program, int is_kept)
     }
 }
 
+/* Whether an answer says that no transaction is open behind it. Calls of one line that were refused have taken it back, but where the
+ * whole line was refused before them. */
+static int is_end(enum verb verb, const char *head, int is_refused)
+{
+    int has_calls = verb == DO || verb == DO_AND_KEEP;
+    int is_of_line = begins(head, "error ") || begins(head, "refused 4 ") || begins(head, "refused 25 ");
+    return is(head, "aborted") || is(head, "error Idle") || begins(head, "refused 10 ") || (has_calls && !is_of_line)
+        || ((verb == COMMIT || verb == KEEP) && !is_refused);
+}
+
 /* What an answer tells of its seat, and of the program that is told. */
 static void note_answer(struct seat *seat, const struct asked *asked)
 {
     const char *head = seat->head;
     enum verb verb = asked->verb;
     int is_refused = begins(head, "refused ") || begins(head, "error ");
+    int is_commit = verb == COMMIT || verb == KEEP || verb == DO || verb == DO_AND_KEEP || verb == WITHIN || verb == MAKE;
     if (begins(head, "begun "))
         seat->is_open = 1;
-    if (is(head, "aborted") || is(head, "error Idle") || begins(head, "refused 10 ") || (verb == COMMIT && !is_refused)
-        || (verb == KEEP && begins(head, "kept ")))
+    if (is_end(verb, head, is_refused))
         seat->is_open = 0;
     if ((verb == WAIT || verb == KEPT) && is(head, "kept"))
         seat->kept = seat->commits;
-    if (!is_refused && (verb == COMMIT || verb == KEEP || verb == DO || verb == WITHIN || verb == MAKE))
-        note_commit(seat, asked->program, verb == KEEP);
+    if (!is_refused && is_commit)
+        note_commit(seat, asked->program, verb == KEEP || verb == DO_AND_KEEP);
 }
 
 /* The server has undone the transaction of a seat's holder, who said nothing, and told that to a line of another program, or of the

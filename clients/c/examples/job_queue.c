@@ -7,7 +7,7 @@
 #include <string.h>
 #include <unistd.h>
 
-enum { JOBS = 20, NAME_TAKEN = 5 };
+enum { JOBS = 20, NAME_TAKEN = 5, NO_SUCH_TXN = 10 };
 
 /* Ends the program where the store is gone, or did not understand. */
 static const char *heard(const char *answer)
@@ -36,7 +36,7 @@ static int give_up(struct boost *store, int refusal)
         fprintf(stderr, "job_queue: refused %d\n", refusal);
         exit(1);
     }
-    need(boost_ask(store, "abort"), 0);
+    need(boost_ask(store, "abort"), NO_SUCH_TXN);   /* where the line that was to finish it was refused, none is open any more */
     return refusal == 0 ? 0 : -1;
 }
 
@@ -48,12 +48,9 @@ static int work(struct boost *store, int is_last)
     const char *answer = heard(boost_ask(store, "call jobs take"));
     if (sscanf(answer, "item %llu %llu", &priority, &tag) != 2)
         return give_up(store, boost_refusal(answer));
-    answer = heard(boost_ask(store, "call done add %llu", tag));
-    if (boost_refusal(answer) != 0)
-        return give_up(store, boost_refusal(answer));
     if (is_last)
         _exit(0);                                 /* dies with the job in its hands */
-    answer = heard(boost_ask(store, "keep"));
+    answer = heard(boost_ask(store, "keep done add %llu", tag));
     return boost_refusal(answer) == 0 ? 1 : give_up(store, boost_refusal(answer));
 }
 

@@ -10,6 +10,13 @@
     >>> store.do(('hits', 'bump', 1), ('hits', 'read'))
     [None, 6]
 
+Its last calls and the commit are one round trip by `finish`:
+
+    >>> with store.transaction() as t:
+    ...     seen = t.call('hits', 'read')
+    ...     t.finish(('hits', 'bump', -seen), ('hits', 'read'))
+    [None, 0]
+
 A function of a transaction is run again while another transaction is in its way:
 
     >>> place = store.make('queue', 'jobs')
@@ -82,6 +89,8 @@ T = TypeVar('T')
 AT_DOOR = 8
 # How many seconds pass until one that waits for something in the store asks again, at first and at last.
 ASK_AGAIN, ASK_AGAIN_AT_LAST = 0.005, 0.2
+# What a line of a transaction is answered where none is open.
+NOTHING_OPEN = 'refused 10 NoSuchTxn'
 
 
 class Session:
@@ -142,6 +151,41 @@ class Transaction:
         self._is_open = False
         self._store._note(connection, self._keep)
 
+    def finish(self, *calls: Tuple[Argument, ...], timeout: Optional[float] = None) -> List[Reply]:
+        """Makes these calls, each a name with its call, or `'later'` before that, and commits, before the end of the block: all in one
+        round trip. The replies of the calls. Where one of them is refused, or the commit, all is taken back, and so what was called
+        before. What is too long for one line is sent as several."""
+        if not calls:
+            raise ValueError('no call')
+        parts = [words_of(*call) for call in calls]
+        line = ('keep ' if self._keep else 'do ') + '; '.join(parts)
+        if len(line) > Shared.longest:
+            return self._finish_in_lines(parts, timeout)
+        connection = self._connection
+        try:
+            answer = self._lines([line], timeout)[0]
+            if answer.startswith(('refused ', 'error ')):
+                reply_of(answer, line)
+        except Lost:                               # it is in effect, and the server ends
+            raise
+        except Refused:                            # nothing is open but where memory was wanting for the line itself
+            self.abort()
+            raise
+        *replies, self.place = [reply_of(part, line) for part in answer.split('; ')]
+        self._is_open = False
+        self._store._note(connection, self._keep)
+        return replies
+
+    def _finish_in_lines(self, parts: List[str], timeout: Optional[float]) -> List[Reply]:
+        lines = lines_of(parts)
+        try:
+            replies = [reply_of(answer, line) for answer, line in zip(self._lines(lines, timeout), lines)]
+        except Refused:
+            self.abort()
+            raise
+        self.commit(timeout)
+        return replies
+
     def abort(self, timeout: Optional[float] = None) -> None:
         """Takes all back before the end of the block."""
         if self._is_open:
@@ -154,9 +198,9 @@ class Transaction:
 
     def _lines(self, texts: Sequence[str], timeout: Optional[float]) -> List[str]:
         if self._connection is None or not self._is_open:
-            raise Refused('refused 10 NoSuchTxn')
+            raise Refused(NOTHING_OPEN)
         answers = self._connection.ask(texts, self._timeout if timeout is None else timeout)
-        if 'error Idle' in answers:
+        if any(answer == 'error Idle' or answer.startswith(NOTHING_OPEN) for answer in answers):
             self._is_open = False
         return answers
 
@@ -259,7 +303,7 @@ class Store:
         return [reply_of(part, line) for part in answer.split('; ')][:-1]
 
     def _do_in_lines(self, parts: List[str], keep: bool, timeout: Optional[float]) -> List[Reply]:
-        lines = [part if part.startswith('later ') else 'call ' + part for part in parts]
+        lines = lines_of(parts)
         with self.transaction(keep, timeout) as t:
             return [reply_of(answer, line) for answer, line in zip(t._lines(lines, None), lines)]
 
@@ -343,6 +387,11 @@ class Store:
 
     def __exit__(self, *_: Any) -> None:
         self.close()
+
+
+def lines_of(parts: Sequence[str]) -> List[str]:
+    """The calls of one line as lines of a transaction."""
+    return [part if part.startswith('later ') else 'call ' + part for part in parts]
 
 
 def patiently(attempt: Callable[[], T], patience: float) -> T:

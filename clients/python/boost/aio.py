@@ -24,7 +24,7 @@ from collections import deque
 from types import TracebackType
 from typing import Any, Awaitable, Callable, Deque, List, Optional, Sequence, Set, Tuple, Type, TypeVar
 
-from . import pauses
+from . import NOTHING_OPEN, lines_of, pauses
 from .connections import CLIENTS, CLOSED_STORE, HELLO, TIMEOUT, path_of_gate
 from .errors import Busy, Closed, Error, Gone, Lost, NotServed, Refused, TimedOut
 from .lines import LONGEST, Argument, Reply, Status, bytes_of_line, reply_of, seconds_of, words_of
@@ -176,6 +176,41 @@ class Transaction:
         self._is_open = False
         self._store._note(connection, self._keep)
 
+    async def finish(self, *calls: Tuple[Argument, ...], timeout: Optional[float] = None) -> List[Reply]:
+        """Makes these calls and commits, before the end of the block: all in one round trip. The replies of the calls. Where one of them
+        is refused, or the commit, all is taken back, and so what was called before. What is too long for one line is sent as
+        several."""
+        if not calls:
+            raise ValueError('no call')
+        parts = [words_of(*call) for call in calls]
+        line = ('keep ' if self._keep else 'do ') + '; '.join(parts)
+        if len(line) > LONGEST:
+            return await self._finish_in_lines(parts, timeout)
+        connection = self._connection
+        try:
+            answer = (await self._lines([line], timeout))[0]
+            if answer.startswith(('refused ', 'error ')):
+                reply_of(answer, line)
+        except Lost:                               # it is in effect, and the server ends
+            raise
+        except Refused:                            # nothing is open but where memory was wanting for the line itself
+            await self.abort()
+            raise
+        *replies, self.place = [reply_of(part, line) for part in answer.split('; ')]
+        self._is_open = False
+        self._store._note(connection, self._keep)
+        return replies
+
+    async def _finish_in_lines(self, parts: List[str], timeout: Optional[float]) -> List[Reply]:
+        lines = lines_of(parts)
+        try:
+            replies = [reply_of(answer, line) for answer, line in zip(await self._lines(lines, timeout), lines)]
+        except Refused:
+            await self.abort()
+            raise
+        await self.commit(timeout)
+        return replies
+
     async def abort(self, timeout: Optional[float] = None) -> None:
         """Takes all back before the end of the block."""
         if self._is_open:
@@ -190,10 +225,10 @@ class Transaction:
 
     async def _lines(self, texts: Sequence[str], timeout: Optional[float]) -> List[str]:
         if self._connection is None or not self._is_open:
-            raise Refused('refused 10 NoSuchTxn')
+            raise Refused(NOTHING_OPEN)
         seconds = self._store._seconds(self._timeout if timeout is None else timeout)
         answers = await self._connection.ask(texts, seconds)
-        if 'error Idle' in answers:
+        if any(answer == 'error Idle' or answer.startswith(NOTHING_OPEN) for answer in answers):
             self._is_open = False
         return answers
 
@@ -277,7 +312,7 @@ class Store:
             return [reply_of(part, line) for part in answer.split('; ')][:-1]
 
         async def in_lines() -> List[Reply]:
-            lines = [part if part.startswith('later ') else 'call ' + part for part in parts]
+            lines = lines_of(parts)
             async with self.transaction(keep, timeout) as t:
                 return [reply_of(answer, line) for answer, line in zip(await t._lines(lines, None), lines)]
         return await patiently(at_once if len(line) <= LONGEST else in_lines, patience)

@@ -42,11 +42,17 @@ class Gate:
                 bumps, is_open, answer = 0, True, 'begun 1'
             elif line.startswith('call hits bump '):
                 bumps += int(line.split()[-1])
+            elif line.startswith(('keep hits bump ', 'do hits bump ')) and is_open:
+                more = sum(int(part.split()[-1]) for part in line.split('; '))
+                self.total, is_open = self.total + bumps + more, False
+                answer = 'done; ' * len(line.split('; ')) + ('kept ' if line.startswith('keep') else 'place ') + str(self.total)
+            elif line == 'keep busy bump 1':
+                is_open, answer = False, 'refused 9 Busy 1'
             elif line in ('keep', 'commit'):
                 self.total, is_open = self.total + bumps, False
                 answer = ('kept ' if line == 'keep' else 'place ') + str(self.total)
             elif line == 'abort':
-                is_open, answer = False, 'aborted'
+                is_open, answer = False, 'aborted' if is_open else 'refused 10 NoSuchTxn'
             elif line == 'do hits read':
                 answer = 'total %d; place 1' % self.total
             elif line == 'do hits cut':
@@ -97,6 +103,24 @@ class Aio(unittest.TestCase):
             await t.call('hits', 'bump', 1)
         await store.wait()
         self.assertEqual(gate.lines[-2:], ['commit', 'wait'])
+
+    @at_a_gate
+    async def test_finished_in_one_round_trip(self, gate, store):
+        async with store.transaction() as t:
+            await t.call('hits', 'bump', 5)
+            self.assertEqual(await t.finish(('hits', 'bump', 1), ('hits', 'bump', 2)), [None, None])
+        self.assertEqual((t.place, gate.total), (8, 8))
+        self.assertEqual(gate.lines, ['begin', 'call hits bump 5', 'keep hits bump 1; hits bump 2'])
+        with self.assertRaises(boost.Refused):
+            await t.finish(('hits', 'bump', 1))
+        with self.assertRaises(boost.Busy):
+            async with store.transaction() as t:
+                await t.call('hits', 'bump', 100)
+                await t.finish(('busy', 'bump', 1))
+        self.assertEqual((gate.total, gate.lines[-1], gate.live), (8, 'abort', 1))
+        async with store.transaction(keep=False) as t:
+            await t.finish(*[('hits', 'bump', 1)] * 500)   # longer than a line
+        self.assertEqual((gate.total, gate.lines[-1]), (508, 'commit'))
 
     @at_a_gate
     async def test_who_waits_says_how_long(self, gate, store):

@@ -543,6 +543,37 @@ module _ {J : Type 0} (j : Ghosts J) where
           (tried_then j old now left goes.tried tried.0 goes.tries tried.1) hears;
     }
 
+    -- as far, of more
+    goes_wider : (bound more : ℕ) (old now : Known) (number : ℕ) → Goes bound old number now →
+        bound ≤ more → Goes more old number now
+    goes_wider bound more old now number goes few = record {
+      refused = goes.refused;
+      is = goes.is;
+      within = elim goes.within [
+        | inl none ↦ inl none
+        | inr less ↦ inr (omega (arith, few, less))
+      ];
+      passes = goes.passes;
+      tried = goes.tried;
+      tries = goes.tries;
+    }
+
+    -- How far an attempt has come, of as many as it takes.
+    abbrev pub Seeks : Known → Known → Type 0
+    Seeks old now = (number : ℕ) × Goes number old number now
+
+    -- the next one, which is one more of those that it takes
+    pub seeks_on : (old now left new : Known) (e : Refusal) → Seeks old now → IsPassing e →
+        IsRefused j.origin refuses now e left →
+        (xs : List Action) × Tried j.origin now xs left → Hears left [] (false ∷ []) new →
+        Seeks old new
+    seeks_on old now left new e seeks passing is tried hears = (
+      seeks.0 + 1,
+      goes_on (seeks.0 + 1) old now left new seeks.0 e
+          (goes_wider seeks.0 (seeks.0 + 1) old now seeks.0 seeks.1 (omega arith)) (omega arith)
+          passing is tried hears,
+    )
+
     -- an attempt behind which no other is made
     pub gives_up : (bound : ℕ) (old now new : Known) (number : ℕ) (e : Refusal) →
         Goes bound old number now → IsRefused j.origin refuses now e new →

@@ -34,8 +34,10 @@ mod committing;
 mod filling;
 mod pause;
 mod running;
+mod seeking;
 mod transacting;
 
 pub use running::{Closed, Work, all_ended, run};
+pub use seeking::{NOTHING_FOUND, Patience, keep_waiting, transact_waiting};
 pub use store::{Attempt, Transaction};
 pub use transacting::{keep, keep_within, transact, transact_within};

@@ -191,8 +191,8 @@ fn may_try_again(taken_back: Result<(), Refusal>, tries: &mut u32) -> bool {
     }
 }
 
-// Whether a transaction that was refused so may go through later.
-fn is_passing(refusal: Refusal) -> bool
+/// Whether a transaction that was refused so may go through later.
+pub(crate) fn is_passing(refusal: Refusal) -> bool
     ensures { IsTrue result ↔ IsPassing refusal }
 {
     matches!(
@@ -201,8 +201,8 @@ fn is_passing(refusal: Refusal) -> bool
     )
 }
 
-// Runs a transaction once, and takes it back at a refusal. Where that is refused, it may be open.
-fn try_once<T: Transaction, J: Naming, R: Wait>(
+/// Runs a transaction once, and takes it back at a refusal. Where that is refused, it may be open.
+pub(crate) fn try_once<T: Transaction, J: Naming, R: Wait>(
     rt: &R,
     client: &mut Client<'_, J>,
     transaction: &T,

@@ -16,15 +16,19 @@
 //! `Client`, with its definition in `specs/Calls`. Who waits for work is `src/awaiting.rt`.
 #![tactic(auto)]
 
+mod asking;
 mod attempt;
 mod awaiting;
 mod client;
+mod ending;
 mod hints;
+mod making;
 mod miss;
 mod phase;
 mod request;
 mod seen;
 mod ticket;
+mod watching;
 
 pub use attempt::{Attempt, Transaction};
 pub use client::Client;

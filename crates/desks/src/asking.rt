@@ -21,6 +21,7 @@ use group_commit::ClientSeat;
 use records::Coded;
 use shelf::Looked;
 use std::marker::Brand;
+use undo_log::Handle;
 
 impl<J: Naming, B: Coded> Desk<J, B> {
     /// The number of the collection of the name, which is asked for a call. It takes no memory.
@@ -67,7 +68,7 @@ impl<J: Naming, B: Coded> Desk<J, B> {
         shared: &Shared<J>,
         me: &mut ClientSeat,
         held: &mut ShelfDesk<J, B, Q>,
-        number: u64,
+        handle: Handle,
         name: &str,
         at: u8,
         call: &Call,
@@ -75,12 +76,12 @@ impl<J: Naming, B: Coded> Desk<J, B> {
         looked: Looked,
     ) -> Option<Result<Reply, Refusal>>
         requires line { me.old.table ≡ J.line }
-        requires own { HasEntered me.old number }
+        requires own { HasEntered me.old handle.number }
         requires place { which_of at ≡ Q.which }
-        requires looked { IsLooked B.Shelf.meaning when J.origin.format held.old number at call.now
-            looked }
+        requires looked { IsLooked B.Shelf.meaning when J.origin.format held.old handle.number at
+            call.now looked }
         ensures some { IfSome result (λ r. (found : Option ℕ) × Steps J.origin me.old
-            (Action.Ask number (Target.Named name.now found) call.now when r) me.new) }
+            (Action.Ask handle.number (Target.Named name.now found) call.now when r) me.new) }
         ensures none { IsNone result → me.new ≡ me.old }
         ensures deferred { IfSome result (λ r.
             IfOk r (λ reply. when ≡ When.AtCommit → reply ≡ Reply.Done)) }
@@ -97,8 +98,8 @@ impl<J: Naming, B: Coded> Desk<J, B> {
         let twin = shelves.twins.of(at);
         let near = nears.of_mut(at);
         twin.compare(near, &mut held.far);
-        let replied = journal.ask(&mut held.shelf, number, at, call, when, looked);
-        let parts = &(number, name, at, call, when, &replied);
+        let replied = journal.ask(&mut held.shelf, handle, at, call, when, looked);
+        let parts = &(handle.number, name, at, call, when, &replied);
         note_touch::<Brand, _, _>(twin, near, &mut held.far, &held.shelf, &(&*me, parts));
         note::<Brand, _>(&shared.line, seat, me, parts);
         wake(&shared.signal, journal, false);

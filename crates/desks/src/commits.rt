@@ -24,7 +24,7 @@ use records::Coded;
 use shelf::Shelf;
 use std::marker::Brand;
 use txn::Journal;
-use undo_log::Stamped;
+use undo_log::{Handle, Stamped};
 
 impl<J: Naming, B: Coded> Desk<J, B> {
     /// Commits a transaction, under the locks of the shelves that are held: a step of the client,
@@ -40,15 +40,15 @@ impl<J: Naming, B: Coded> Desk<J, B> {
         shared: &Shared<J>,
         me: &mut ClientSeat,
         held: &mut Held<'_, J, B>,
-        number: u64,
+        handle: Handle,
     ) -> Option<Result<u64, Refusal>>
         requires line { me.old.table ≡ J.line }
-        requires own { HasEntered me.old number }
-        ensures some { IfSome result (λ r. Steps J.origin me.old (Action.Commit number r)
+        requires own { HasEntered me.old handle.number }
+        ensures some { IfSome result (λ r. Steps J.origin me.old (Action.Commit handle.number r)
             me.new) }
         ensures none { IsNone result → me.new ≡ me.old }
     {
-        let needed = self.journal.shelves_of(number);
+        let needed = self.journal.shelves_of(handle);
         if !held.covers(&needed) {
             return None;
         }
@@ -58,8 +58,8 @@ impl<J: Naming, B: Coded> Desk<J, B> {
             seat,
             ..
         } = self;
-        let committed = commit_over(shelves, journal, nears, held, number);
-        note::<Brand, _>(&shared.line, seat, me, &(number, &committed));
+        let committed = commit_over(shelves, journal, nears, held, handle);
+        note::<Brand, _>(&shared.line, seat, me, &(handle.number, &committed));
         wake(&shared.signal, journal, committed.is_ok());
         Some(committed)
     }
@@ -72,26 +72,32 @@ fn commit_over<J: Naming, B: Coded>(
     journal: &mut Journal<B>,
     nears: &mut Four<TwinNear<Touch<Shelf<B::Shelf>>>>,
     held: &mut Held<'_, J, B>,
-    number: u64,
+    handle: Handle,
 ) -> Result<u64, Refusal>
     requires known { (f : Four (ShelfState B.Shelf)) × IsKnown ⟦<J as Naming>⟧ B.meaning B.making
         B.collections B.whole B.fits journal.old nears.old f }
     requires first { IsNone held.old.first →
-        IsUntouched First number journal.old.accounts.entries }
+        IsUntouched First handle.number journal.old.accounts.entries }
     requires second { IsNone held.old.second →
-        IsUntouched Second number journal.old.accounts.entries }
+        IsUntouched Second handle.number journal.old.accounts.entries }
     requires third { IsNone held.old.third →
-        IsUntouched Third number journal.old.accounts.entries }
+        IsUntouched Third handle.number journal.old.accounts.entries }
     requires fourth { IsNone held.old.fourth →
-        IsUntouched Fourth number journal.old.accounts.entries }
+        IsUntouched Fourth handle.number journal.old.accounts.entries }
     ensures { LeadsKnown ⟦<J as Naming>⟧ B.meaning B.making B.collections B.whole B.fits
-        (λ b c. IsServed B.meaning B.making B.collections (Action.Commit number) result
-        (OnOk result (SettlesWhole B.meaning B.making number b c)) b c)
+        (λ b c. IsServed B.meaning B.making B.collections (Action.Commit handle.number) result
+        (OnOk result (SettlesWhole B.meaning B.making handle.number b c)) b c)
         journal.old nears.old journal.new nears.new }
 {
-    let place = journal.prepare_commit(number)?;
-    let ran = settle_all(shelves, nears, held, number, journal.entries_of(number));
-    journal.finish(number, ran);
+    let place = journal.prepare_commit(handle)?;
+    let ran = settle_all(
+        shelves,
+        nears,
+        held,
+        handle.number,
+        journal.entries_of(handle),
+    );
+    journal.finish(handle.number, ran);
     Ok(place)
 }
 

@@ -23,6 +23,7 @@ use records::Coded;
 use shelf::Shelf;
 use std::marker::Brand;
 use txn::Journal;
+use undo_log::Handle;
 
 impl<J: Naming, B: Coded> Desk<J, B> {
     /// Ends a transaction whose calls are all undone, under the locks of all shelves: a step of the
@@ -36,11 +37,11 @@ impl<J: Naming, B: Coded> Desk<J, B> {
         shared: &Shared<J>,
         me: &mut ClientSeat,
         held: &mut HeldAll<'_, J, B>,
-        number: u64,
+        handle: Handle,
     ) -> Result<(), Refusal>
         requires line { me.old.table ≡ J.line }
-        requires own { HasEntered me.old number }
-        ensures { Steps J.origin me.old (Action.Ended number result) me.new }
+        requires own { HasEntered me.old handle.number }
+        ensures { Steps J.origin me.old (Action.Ended handle.number result) me.new }
     {
         let Self {
             journal,
@@ -48,8 +49,8 @@ impl<J: Naming, B: Coded> Desk<J, B> {
             seat,
             ..
         } = self;
-        let ended = end_over(&shelves.twins, journal, nears, held, number);
-        note::<Brand, _>(&shared.line, seat, me, &(number, &ended));
+        let ended = end_over(&shelves.twins, journal, nears, held, handle);
+        note::<Brand, _>(&shared.line, seat, me, &(handle.number, &ended));
         wake(&shared.signal, journal, false);
         ended
     }
@@ -61,18 +62,18 @@ fn end_over<J: Naming, B: Coded>(
     journal: &mut Journal<B>,
     nears: &mut Four<TwinNear<Touch<Shelf<B::Shelf>>>>,
     held: &mut HeldAll<'_, J, B>,
-    number: u64,
+    handle: Handle,
 ) -> Result<(), Refusal>
     requires twins { twins.now ≡ J.shelves }
     requires known { (f : Four (ShelfState B.Shelf)) × IsKnown ⟦<J as Naming>⟧ B.meaning B.making
         B.collections B.whole B.fits journal.old nears.old f }
     ensures { LeadsKnown ⟦<J as Naming>⟧ B.meaning B.making B.collections B.whole B.fits
-        (λ b c. Serves B.meaning B.making B.collections (Action.Ended number) result b c)
+        (λ b c. Serves B.meaning B.making B.collections (Action.Ended handle.number) result b c)
         journal.old nears.old journal.new nears.new }
 {
-    journal.prepare_end(number)?;
-    give_up_all(twins, nears, held, number);
-    journal.finish(number, 0);
+    journal.prepare_end(handle)?;
+    give_up_all(twins, nears, held, handle.number);
+    journal.finish(handle.number, 0);
     Ok(())
 }
 

@@ -16,6 +16,7 @@ use calls::Refusal;
 use group_commit::ClientSeat;
 use records::Coded;
 use std::marker::Brand;
+use undo_log::Handle;
 
 impl<J: Naming, B: Coded> Desk<J, B> {
     /// The number of the collection of the transaction's newest call that is not undone. Where none
@@ -25,19 +26,19 @@ impl<J: Naming, B: Coded> Desk<J, B> {
         &mut self,
         shared: &Shared<J>,
         me: &mut ClientSeat,
-        number: u64,
+        handle: Handle,
     ) -> Result<u8, Result<bool, Refusal>>
         requires line { me.old.table ≡ J.line }
-        requires own { HasEntered me.old number }
+        requires own { HasEntered me.old handle.number }
         ensures ok { OnOk result (me.new ≡ me.old) }
-        ensures err { IfErr result (λ r. Steps J.origin me.old (Action.Back number r)
+        ensures err { IfErr result (λ r. Steps J.origin me.old (Action.Back handle.number r)
             me.new) }
     {
-        match self.journal.newest(number) {
+        match self.journal.newest(handle) {
             Some(at) => Ok(at),
             None => {
-                let undone = self.journal.back_none(number);
-                note::<Brand, _>(&shared.line, &mut self.seat, me, &(number, &undone));
+                let undone = self.journal.back_none(handle);
+                note::<Brand, _>(&shared.line, &mut self.seat, me, &(handle.number, &undone));
                 wake(&shared.signal, &self.journal, false);
                 Err(undone)
             }
@@ -55,17 +56,17 @@ impl<J: Naming, B: Coded> Desk<J, B> {
         shared: &Shared<J>,
         me: &mut ClientSeat,
         held: &mut ShelfDesk<J, B, Q>,
-        number: u64,
+        handle: Handle,
         at: u8,
     ) -> Option<Result<bool, Refusal>>
         requires line { me.old.table ≡ J.line }
-        requires own { HasEntered me.old number }
+        requires own { HasEntered me.old handle.number }
         requires place { which_of at ≡ Q.which }
-        ensures some { IfSome result (λ r. Steps J.origin me.old (Action.Back number r)
+        ensures some { IfSome result (λ r. Steps J.origin me.old (Action.Back handle.number r)
             me.new) }
         ensures none { IsNone result → me.new ≡ me.old }
     {
-        let newest = self.journal.newest(number)?;
+        let newest = self.journal.newest(handle)?;
         if newest != at {
             return None;
         }
@@ -78,8 +79,8 @@ impl<J: Naming, B: Coded> Desk<J, B> {
         let twin = shelves.twins.of(at);
         let near = nears.of_mut(at);
         twin.compare(near, &mut held.far);
-        let undone = journal.back(&mut held.shelf, number, at);
-        let parts = &(number, &undone);
+        let undone = journal.back(&mut held.shelf, handle, at);
+        let parts = &(handle.number, &undone);
         note_touch::<Brand, _, _>(twin, near, &mut held.far, &held.shelf, &(&*me, parts));
         note::<Brand, _>(&shared.line, seat, me, parts);
         wake(&shared.signal, journal, false);

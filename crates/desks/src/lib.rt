@@ -17,8 +17,9 @@
 //! history itself is a table of `group_commit`, of which each client has a seat.
 //!
 //! **To change it.** A new step is a method of `Desk`, which notes it. When a client waits is
-//! `Signal`; who waits for work, and whom it is told, is `WaitQueue` of `waiting`; how much room a block leaves is `Room` of `engine`; how much the next image may take is `Budget`,
-//! and what a step adds to it is `Footprint`.
+//! `Signal`; who waits for work, and whom it is told, is `WaitQueue` of `waiting`; how much room a
+//! block leaves is `Room` of `engine`; how much the next image may take is `Budget`, and what a
+//! step adds to it is `Footprint`.
 #![tactic(auto)]
 
 mod asking;
@@ -39,6 +40,7 @@ mod shelves;
 mod signal;
 mod status;
 mod touch;
+mod visit;
 
 pub use budget::{Admission, Fill, full_of};
 pub use catalog::Measured;
@@ -54,4 +56,5 @@ pub use shelves::{Held, HeldAll, Shelves};
 pub use signal::Signal;
 pub use status::Status;
 pub use touch::Touch;
+pub use undo_log::Handle;
 pub use waiting::{Asked, Ended, Moment, Place, WaitQueue};

@@ -1,7 +1,12 @@
 // A lock that counts who waits for it.
+use crate::visit::Visit;
 use crossbeam_utils::Backoff;
 use std::sync::atomic::{AtomicU64, Ordering};
 use std::sync::{Mutex, MutexGuard, Wait};
+
+// How often a lock is tried before a sleep: with the pauses that double, some two microseconds, in
+// which a step under it is over ten times.
+const TRIES: u32 = 7;
 
 /// What lies under a lock, with the count of those who came to wait for it. A lock goes to whoever
 /// asks first, and a thread that was woken for it may be late. So one who takes it again and again,
@@ -23,15 +28,29 @@ impl<T> Lock<T> {
         }
     }
 
-    /// Takes the lock. Who has to wait for it is counted. It takes no memory.
+    /// Takes the lock. Who has to wait for it tries again for some microseconds, as most steps take
+    /// less than a sleep does; and then is counted, as come and then as served, and sleeps. It
+    /// takes no memory.
     pub fn lock<R: Wait>(&self, rt: &R) -> MutexGuard<'_, T> {
-        if let Some(held) = self.held.try_lock() {
+        if let Some(held) = self.spin() {
             return held;
         }
-        self.came.fetch_add(1, Ordering::SeqCst);
+        let visit = Visit::begin(&self.came);
         let held = self.held.lock(rt);
-        self.served.fetch_add(1, Ordering::SeqCst);
+        visit.end(&self.served);
         held
+    }
+
+    // Tries to take the lock so often, with a pause between two tries that doubles.
+    fn spin(&self) -> Option<MutexGuard<'_, T>> {
+        let backoff = Backoff::new();
+        for _ in 0..TRIES {
+            if let Some(held) = self.held.try_lock() {
+                return Some(held);
+            }
+            backoff.spin();
+        }
+        None
     }
 
     /// Waits until as many threads have had the lock as wait for it now. Who comes meanwhile and

@@ -1,13 +1,13 @@
-//! A job queue in a store in a file. Four workers do jobs side by side: each picks a job of a set,
-//! works while it holds it, and writes the result in the same transaction. Who gives up, or dies,
-//! has its job taken back by the store. A job that fails is tried again, and lies aside once it
-//! failed three times. It can be stopped at any time and started again. This file is a whole
-//! example, to be copied.
+//! A job queue in a store in a file. Four workers do jobs side by side, as another thread puts them
+//! in: each picks a job of a set, works while it holds it, and writes the result in the same
+//! transaction. Who finds none sleeps until there is one. Who gives up, or dies, has its job taken
+//! back by the store. A job that fails is tried again, and lies aside once it failed three times.
+//! It can be stopped at any time and started again. This file is a whole example, to be copied.
 
 use fizgaloms::{
-    AllocGlobal, Attempt, Call, Client, Clock, Kind, MIN_AREA, Naming, Refusal, Reply, StoreFile,
-    Transaction, Wait, Work, keep, number_of, open_or_format, open_or_make, transact,
-    value_of_number,
+    AllocGlobal, Attempt, Call, Client, Clock, Kind, MIN_AREA, NOTHING_FOUND, Naming, Patience,
+    Refusal, Reply, StoreFile, Transaction, Wait, Work, keep, keep_waiting, number_of,
+    open_or_format, open_or_make, transact, value_of_number,
 };
 use std::fs::File;
 use std::rt::Files;
@@ -16,8 +16,18 @@ use std::time::Duration;
 
 const JOBS: u64 = 40;
 
+const WORKERS: u64 = 4;
+
 // How often a job is tried.
 const TRIES: u64 = 3;
+
+// How a worker waits for a job: for a minute at most, and all for the same.
+fn patience() -> Patience {
+    Patience {
+        longest: Duration::from_secs(60),
+        alike: 1,
+    }
+}
 
 // What the work comes to: nothing for every thirteenth job, which fails.
 fn result_of(job: u64) -> Option<u64> {
@@ -63,11 +73,14 @@ fn put<A: Attempt>(attempt: &mut A, job: u64) -> Result<u64, Refusal> {
 }
 
 // Does a job, and holds it meanwhile. While others hold theirs, `Nothing` is answered to nobody, as
-// a job may come back.
+// a job may come back. A number that is none of a job is put in behind them, and ends a worker.
 fn do_one<R: Clock + AllocGlobal, A: Attempt>(rt: &R, attempt: &mut A) -> Result<u64, Refusal> {
     let Reply::Id(job) = attempt.call("jobs", &Call::Pick)? else {
-        return Ok(0);
+        return Err(NOTHING_FOUND);
     };
+    if job >= JOBS {
+        return Ok(0);
+    }
     thread::sleep(rt, Duration::from_millis(1));
     match result_of(job) {
         Some(result) => {
@@ -111,12 +124,35 @@ fn count<A: Attempt>(attempt: &mut A, collection: &str) -> Result<u64, Refusal> 
 // What the threads of a run do.
 #[derive(Clone, Copy)]
 enum Part {
-    /// One puts all jobs in.
-    Putting,
-    /// Four do them, until none is left. Each gives a job up first.
+    /// One puts all jobs in, and the others do them. Each gives a job up first.
     Working,
     /// One counts those that are done and those that failed.
     Counting,
+}
+
+// Puts all jobs in, and behind them what ends each worker.
+fn put_all<J: Naming, R: Wait + Clock + AllocGlobal>(
+    rt: &R,
+    client: &mut Client<'_, J>,
+) -> Result<(), Refusal> {
+    for job in 0..JOBS + WORKERS {
+        keep(rt, client, &Step::<R>::Put(job))?;
+    }
+    Ok(())
+}
+
+// Does jobs as they come, until it is ended.
+fn do_all<J: Naming, R: Wait + Clock + AllocGlobal>(
+    rt: &R,
+    client: &mut Client<'_, J>,
+) -> Result<(), Refusal> {
+    let _given_up = transact(rt, client, &Step::<R>::GiveUp);
+    for _ in rt.forever() {
+        if keep_waiting(rt, client, &Step::Do(rt), patience())?.0 == 0 {
+            break;
+        }
+    }
+    Ok(())
 }
 
 impl Work for Part {
@@ -126,7 +162,7 @@ impl Work for Part {
         &self,
         rt: &R,
         client: &mut Client<'_, J>,
-        _thread: usize,
+        thread: usize,
     ) -> Result<(u64, u64), Refusal> {
         for name in ["jobs", "done", "failed"] {
             open_or_make(rt, client, name, Kind::Set)?;
@@ -135,19 +171,8 @@ impl Work for Part {
             open_or_make(rt, client, name, Kind::Map)?;
         }
         match self {
-            Part::Putting => {
-                for job in 0..JOBS {
-                    keep(rt, client, &Step::<R>::Put(job))?;
-                }
-            }
-            Part::Working => {
-                let _given_up = transact(rt, client, &Step::<R>::GiveUp);
-                for _ in rt.forever() {
-                    if keep(rt, client, &Step::Do(rt))?.0 == 0 {
-                        break;
-                    }
-                }
-            }
+            Part::Working if thread == 0 => put_all(rt, client)?,
+            Part::Working => do_all(rt, client)?,
             Part::Counting => {}
         }
         let (done, _ticket) = transact(rt, client, &Step::<R>::Count("done"))?;
@@ -175,8 +200,7 @@ fn do_part<R: Threads + Wait + Clock + Files<File = File> + AllocGlobal + Sync>(
 pub fn run<R: Threads + Wait + Clock + Files<File = File> + Print + AllocGlobal + Sync>(
     rt: &R,
 ) -> anyhow::Result<()> {
-    do_part(rt, Part::Putting, 1)?;
-    do_part(rt, Part::Working, 4)?;
+    do_part(rt, Part::Working, 5)?;
     let (done, failed) = do_part(rt, Part::Counting, 1)?;
     println!(rt;
         "{} jobs have their result once the file was opened again, and {failed} lie aside",

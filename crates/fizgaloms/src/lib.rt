@@ -18,7 +18,8 @@
 //! ```
 //!
 //! A program says what each of its threads does (`Work`), opens the file (`open_or_format`), and
-//! hands both to `run`. A thread runs transactions by `transact` and `keep`.
+//! hands both to `run`. A thread runs transactions by `transact` and `keep`, and those that wait
+//! for something to do by `transact_waiting` and `keep_waiting`.
 #![tactic(auto)]
 
 mod making;
@@ -26,8 +27,8 @@ mod opening;
 mod values;
 
 pub use background::{
-    Attempt, Closed, Transaction, Work, all_ended, keep, keep_within, run, transact,
-    transact_within,
+    Attempt, Closed, NOTHING_FOUND, Patience, Transaction, Work, all_ended, keep, keep_waiting,
+    keep_within, run, transact, transact_waiting, transact_within,
 };
 pub use calls::limits::{MAX_AREA, MIN_AREA};
 pub use calls::{Bytes, Call, Kind, Refusal, Reply, When};

@@ -2,7 +2,7 @@
 use crate::accord::{Accord, Far, Near};
 use crate::handoff::{Handoff, Receiver, Sender};
 use crate::line::{BookSeat, ClientSeat, Line};
-use crate::mark::{KeeperSeat, Mark, Watcher};
+use crate::mark::{KeeperSeat, Mark, Stopper, Watcher};
 use crate::numbers::{Drawer, DrawerMaker, Numbers};
 use crate::twin::{Twin, TwinFar, TwinNear};
 
@@ -42,6 +42,11 @@ fn sends_client(
     drawer: Drawer,
 ) -> (ClientSeat, Watcher, Drawer) {
     (sent(client), sent(watcher), sent(drawer))
+}
+
+// What a committer has beside a watcher.
+fn sends_stopper(stopper: Stopper) -> Stopper {
+    sent(stopper)
 }
 
 // The two ends of an accord.

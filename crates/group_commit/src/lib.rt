@@ -4,8 +4,8 @@
 //!   received, followed by what is in transit, in order, at most four. Both ends have noted the
 //!   same of what was frozen.
 //! - `Mark`: how many commits are kept. The count never falls, and is what the keeper's seat has
-//!   brought it to, which tells it to a watcher. A failed flag stays. A thread may sleep until the
-//!   mark moves.
+//!   brought it to, which tells it to a watcher. A failed flag stays, and is set by the keeper's
+//!   seat or by a stopper alone. A thread may sleep until the mark moves.
 //! - `Line`: the one history of the book. What each client has seen is a beginning of it, with all
 //!   that the history has of the client.
 //! - `Numbers`: each number that was drawn was drawn once. Who makes drawers is told what one drew,
@@ -16,10 +16,11 @@
 //!   together lengthen it.
 //!
 //! Threads share the six by `&`. What a thread knows of one lies in a seat, which goes with it: a
-//! sender, a receiver, a keeper's seat, a watcher, the book's seat, a client's, a drawer, the near
-//! end and the far end of an accord or of a twin. A seat is made of another one by a function of
-//! its part, and only its own steps change what it knows. So what contracts say of a seat holds
-//! whatever the other threads do: the rule of a part is kept by each step, and is proved here.
+//! sender, a receiver, a keeper's seat, a stopper, a watcher, the book's seat, a client's, a drawer,
+//! the near end and the far end of an accord or of a twin. A seat is made of another one by a
+//! function of its part, and only its own steps change what it knows. So what contracts say of a
+//! seat holds whatever the other threads do: the rule of a part is kept by each step, and is proved
+//! here.
 //!
 //! There are twelve kinds of step: blocks are sent and received; the mark is brought on, its flag
 //! is set, and both are loaded; a step is tallied on the line, and the line is loaded; a number is
@@ -49,7 +50,7 @@ pub use accord::{Accord, Far, Near, OneGather};
 pub use ends::{Incoming, Outgoing};
 pub use handoff::{Handoff, Receiver, Sender};
 pub use line::{BookSeat, ClientSeat, Line};
-pub use mark::{KeeperSeat, Mark, OneMoment, Raised, Watcher};
+pub use mark::{KeeperSeat, Mark, OneMoment, Raised, Stopper, Watcher};
 pub use numbers::{Drawer, DrawerMaker, Numbers};
 pub use twin::{OneTouch, Twin, TwinFar, TwinNear};
 pub use view::OneStep;

@@ -16,7 +16,7 @@ ghost use Rattle.images.specs.LiveRecords.{live_record};
 use calls::Refusal;
 use records::{CallRecord, LaterRecord, Record, fits_call, fits_reply};
 use std::alloc::Global;
-use undo_log::{Entry, Later, Live, Logged, Owned};
+use undo_log::{Entry, Handle, Later, Live, Logged, Owned};
 
 // The records that tell of the live transactions: that each began, by rising number, and then what
 // they asked for, in the order asked.
@@ -77,7 +77,9 @@ fn tell_entry(live: &Live, owned: &Owned<'_>, told: &mut Vec<Record>) -> Result<
             tell_call(owned.owner, logged, told)
         }
         Entry::PutOff(later) => {
-            if live.is_falling(owned.owner) {
+            let number = owned.owner;
+            let slot = live.slot(number);
+            if live.is_falling(Handle { number, slot }) {
                 return Ok(());
             }
             tell_later(owned.owner, later, told)

@@ -28,6 +28,7 @@ begin                begins a transaction of many lines:
   later NAME CALL      puts a `bump` or a `fill` off to its commit
   commit               ends it: it is in effect
   keep                 the same, and waits until it is on the disk
+  do .., keep ..       makes these calls and ends it; or takes all of it back
   abort                takes it back
 wait                 waits until what was last committed or made is on the disk
 kept                 asks whether it is

@@ -1,7 +1,7 @@
 // What a machine keeps beside its collections, and its steps: the same for all collections on one
 // shelf and for a quarter of them.
 ghost use Rattle.std.specs.Prelude.{◌≡◌, ◌↔◌, ◌+◌, ◌<◌, ◌≤◌, ◌^◌, true, length};
-ghost use Rattle.std.specs.Prelude.{IsTrue, OnOk, OnErr, IsOkUnless};
+ghost use Rattle.std.specs.Prelude.{IsTrue, IfOk, OnOk, OnErr, IsOkUnless};
 ghost use Rattle.calls.specs.Formats.{widest};
 ghost use Rattle.calls.specs.Limits.{max_calls, max_wear};
 ghost use Rattle.calls.specs.Reads.{reads};
@@ -23,7 +23,7 @@ use calls::{Format, Need, Refusal};
 use shelf::Shelf;
 use std::alloc::Global;
 use std::marker::Model;
-use undo_log::{Entry, Live, Logged};
+use undo_log::{Entry, Handle, Live, Logged};
 
 /// What a machine keeps beside its collections and the needs on them: the live transactions with
 /// what they asked for, the wear, and the format of the store.
@@ -103,19 +103,20 @@ impl Accounts {
         self.format
     }
 
-    /// Begins a transaction.
+    /// Begins a transaction, and answers its handle.
     ///
     /// NoMemory leaves all as before.
-    pub fn begin(&mut self, number: u64) -> Result<(), Refusal>
+    pub fn begin(&mut self, number: u64) -> Result<Handle, Refusal>
         requires can { CanBegin (alone self.old) number }
         requires room { HasRoomFor (alone self.old) 0 }
+        ensures handle { IfOk result (λ handle. handle.number ≡ number) }
         ensures ok { OnOk result (BeginRow (alone self.old) number (alone self.new)) }
         ensures same { OnErr result (self.new ≡ self.old) }
         ensures refusal { IsOkUnless result Refusal.NoMemory }
     {
-        self.live.enter(number)?;
+        let handle = self.live.enter(number)?;
         self.wear += 1;
-        Ok(())
+        Ok(handle)
     }
 
     /// Takes what the transaction asks for on the shelf, and notes it with the need that it has: a
@@ -125,22 +126,23 @@ impl Accounts {
     pub fn take<C: Boosted<At = u8>>(
         &mut self,
         shelf: &mut Shelf<C>,
-        number: u64,
+        handle: Handle,
         entry: Entry,
         need: Need,
     ) -> Result<(), Refusal>
-        requires can { CanAccept C.meaning (state_on self.old shelf.old) number (entry_of entry) }
+        requires can { CanAccept C.meaning (state_on self.old shelf.old) handle.number
+            (entry_of entry) }
         requires room { HasRoomFor (state_on self.old shelf.old) 1 }
         requires reach { HasRoom C.meaning shelf.old.now }
         requires need { need ≡ need_to_take (entry_of entry) }
-        ensures ok { OnOk result (AcceptRow C.meaning (state_on self.old shelf.old) number
+        ensures ok { OnOk result (AcceptRow C.meaning (state_on self.old shelf.old) handle.number
             (entry_of entry) (state_on self.new shelf.new)) }
         ensures same { OnErr result ((self.new ≡ self.old) × (shelf.new ≡ shelf.old)) }
         ensures refusal { IsOkUnless result Refusal.NoMemory }
     {
-        self.live.reserve(number)?;
-        shelf.take(number, &entry, need)?;
-        self.live.push(number, entry);
+        self.live.reserve(handle)?;
+        shelf.take(handle.number, &entry, need)?;
+        self.live.push(handle, entry);
         self.wear += 1;
         Ok(())
     }
@@ -152,22 +154,23 @@ impl Accounts {
     pub fn read<C: Boosted<At = u8>>(
         &mut self,
         shelf: &mut Shelf<C>,
-        number: u64,
+        handle: Handle,
         asked: Logged,
         need: Need,
     ) -> Result<(), Refusal>
-        requires can { CanCall C.meaning (state_on self.old shelf.old) number (event_of asked) }
+        requires can { CanCall C.meaning (state_on self.old shelf.old) handle.number
+            (event_of asked) }
         requires only_reads { reads asked.call asked.reply ≡ true }
         requires room { HasRoomFor (state_on self.old shelf.old) 1 }
         requires need { need ≡ need_of asked.call asked.reply }
-        ensures ok { OnOk result (ReadRow C.meaning (state_on self.old shelf.old) number
+        ensures ok { OnOk result (ReadRow C.meaning (state_on self.old shelf.old) handle.number
             (event_of asked) (state_on self.new shelf.new)) }
         ensures same { OnErr result ((self.new ≡ self.old) × (shelf.new ≡ shelf.old)) }
         ensures refusal { IsOkUnless result Refusal.NoMemory }
     {
-        self.live.reserve(number)?;
-        shelf.hold(number, asked.at, need)?;
-        self.live.push(number, Entry::Asked(asked));
+        self.live.reserve(handle)?;
+        shelf.hold(handle.number, asked.at, need)?;
+        self.live.push(handle, Entry::Asked(asked));
         Ok(())
     }
 
@@ -178,47 +181,47 @@ impl Accounts {
     pub fn back<C: Boosted<At = u8>>(
         &mut self,
         shelf: &mut Shelf<C>,
-        number: u64,
+        handle: Handle,
     ) -> Result<(), Refusal>
-        requires live { Lives self.old.live number }
-        requires call { HasNoCall number self.old.entries → ⊥ }
-        requires undoes { CanUndo C.meaning self.old shelf.old number }
+        requires live { Lives self.old.live handle.number }
+        requires call { HasNoCall handle.number self.old.entries → ⊥ }
+        requires undoes { CanUndo C.meaning self.old shelf.old handle.number }
         requires reach { HasRoom C.meaning shelf.old.now }
         requires room { self.old.wear + 1 < 2 ^ 64 }
-        ensures ok { OnOk result (BackRow C.meaning (state_on self.old shelf.old) number
+        ensures ok { OnOk result (BackRow C.meaning (state_on self.old shelf.old) handle.number
             (state_on self.new shelf.new)) }
         ensures same { OnErr result ((self.new ≡ self.old) × (shelf.new ≡ shelf.old)) }
         ensures refusal { IsOkUnless result Refusal.NoMemory }
-        ensures in_place { OnErr result (UndoingTakesMemory number self.old.entries) }
+        ensures in_place { OnErr result (UndoingTakesMemory handle.number self.old.entries) }
     {
-        let Some(newest) = self.live.newest(number) else {
+        let Some(newest) = self.live.newest(handle) else {
             unreachable!();
         };
         shelf.undo(newest)?;
-        let _undone = self.live.pop(number);
-        self.live.fall(number);
+        let _undone = self.live.pop(handle);
+        self.live.fall(handle);
         self.wear += 1;
         Ok(())
     }
 
     /// Undoes the newest call of the transaction, which only reads. From then on it is falling. It
     /// holds its needs still. It takes no memory and does not wear.
-    pub fn unread(&mut self, number: u64)
-        requires live { Lives self.old.live number }
-        requires newest { HasNewestRead number self.old.entries }
-        ensures { UnreadRow (alone self.old) number (alone self.new) }
+    pub fn unread(&mut self, handle: Handle)
+        requires live { Lives self.old.live handle.number }
+        requires newest { HasNewestRead handle.number self.old.entries }
+        ensures { UnreadRow (alone self.old) handle.number (alone self.new) }
     {
-        let _read = self.live.pop(number);
-        self.live.fall(number);
+        let _read = self.live.pop(handle);
+        self.live.fall(handle);
     }
 
     /// Makes a transaction falling of which nothing is left to undo. It takes no memory.
-    pub fn fall(&mut self, number: u64)
-        requires live { Lives self.old.live number }
-        requires undone { HasNoCall number self.old.entries }
-        ensures { FallRow (alone self.old) number (alone self.new) }
+    pub fn fall(&mut self, handle: Handle)
+        requires live { Lives self.old.live handle.number }
+        requires undone { HasNoCall handle.number self.old.entries }
+        ensures { FallRow (alone self.old) handle.number (alone self.new) }
     {
-        self.live.fall(number);
+        self.live.fall(handle);
     }
 
     /// Takes a transaction out that was settled on its shelves, where so many calls ran for it, or
@@ -243,11 +246,11 @@ pub fn has_room(live: &Live, wear: u64, runs: u64, more: usize) -> bool
 
 /// Whether the transaction is live, and one entry more of it can be noted, behind so many runs
 /// more.
-pub fn has_place(live: &Live, wear: u64, number: u64, runs: u64) -> bool
+pub fn has_place(live: &Live, wear: u64, handle: Handle, runs: u64) -> bool
     requires { wear + runs + (length live.now.entries + 1) < 2 ^ 64 }
-    ensures { IsTrue result ↔ (Lives live.now.live number ×
-        (length (own number live.now.entries) < max_calls) ×
+    ensures { IsTrue result ↔ (Lives live.now.live handle.number ×
+        (length (own handle.number live.now.entries) < max_calls) ×
         (wear + runs + (length live.now.entries + 1) ≤ max_wear)) }
 {
-    live.is_live(number) && live.count(number) < MAX_CALLS && has_room(live, wear, runs, 1)
+    live.is_live(handle) && live.count(handle) < MAX_CALLS && has_room(live, wear, runs, 1)
 }

@@ -39,7 +39,7 @@ use records::{CallRecord, Coded, LaterRecord, Record, is_short_reply};
 use shelf::Shelf;
 use std::alloc::Global;
 use std::marker::Model;
-use undo_log::{Entry, Later, Live, Logged};
+use undo_log::{Entry, Handle, Later, Live, Logged};
 
 /// The collections with the live transactions on them: the state that records lead to, one step a
 /// record.
@@ -163,7 +163,9 @@ impl<B: Parts + Coded> Machine<B> {
         ensures some { IsTrue result ↔ (HasNoCall number self.now.entries → ⊥) }
         ensures none { result ≡ false → HasNoCall number self.now.entries }
     {
-        self.live().newest(number).is_some()
+        let live = self.live();
+        let slot = live.slot(number);
+        live.newest(Handle { number, slot }).is_some()
     }
 
     /// Takes the record's step, where it is one from here, and answers true; false, with nothing
@@ -190,7 +192,8 @@ impl<B: Parts + Coded> Machine<B> {
         ensures refusal { IsOkUnless result Refusal.NoMemory }
         ensures in_place { OnErr result (UndoingTakesMemory number self.old.entries) }
     {
-        self.accounts.back(&mut self.shelf, number)
+        let slot = self.accounts.live().slot(number);
+        self.accounts.back(&mut self.shelf, Handle { number, slot })
     }
 
     /// Ends a transaction whose calls are all undone: its needs go. It takes no memory.
@@ -253,11 +256,12 @@ impl<B: Parts + Coded> Machine<B> {
         ensures same { OnErr result (self.new ≡ self.old) }
         ensures refusal { IsOkUnless result Refusal.NoMemory }
     {
-        self.accounts.begin(number)
+        self.accounts.begin(number)?;
+        Ok(())
     }
 
-    /// Takes what the transaction asks for, and notes it with the need that it has: a call, answered
-    /// so, is made; one that is put off does nothing yet.
+    /// Takes what the transaction asks for, and notes it with the need that it has: a call,
+    /// answered so, is made; one that is put off does nothing yet.
     ///
     /// NoMemory leaves all as before.
     pub fn take(&mut self, number: u64, entry: Entry) -> Result<(), Refusal>
@@ -269,7 +273,9 @@ impl<B: Parts + Coded> Machine<B> {
         ensures refusal { IsOkUnless result Refusal.NoMemory }
     {
         let need = entry.need();
-        self.accounts.take(&mut self.shelf, number, entry, need)
+        let slot = self.accounts.live().slot(number);
+        let handle = Handle { number, slot };
+        self.accounts.take(&mut self.shelf, handle, entry, need)
     }
 
     /// Commits a transaction: what it put off, and what its calls left, runs in the order asked.
@@ -278,7 +284,9 @@ impl<B: Parts + Coded> Machine<B> {
         requires { IsRunning self.old number }
         ensures { CommitRow B.meaning self.old number self.new }
     {
-        let entries = self.accounts.live().entries_of(number);
+        let live = self.accounts.live();
+        let slot = live.slot(number);
+        let entries = live.entries_of(Handle { number, slot });
         let ran = self.shelf.settle(number, entries);
         self.accounts.finish(number, ran);
     }
@@ -295,14 +303,17 @@ impl<B: Parts + Coded> Machine<B> {
     pub fn is_live(&self, number: u64) -> bool
         ensures { IsTrue result ↔ Lives self.now.live number }
     {
-        self.live().is_live(number)
+        self.live().contains(number)
     }
 
     /// Whether the transaction is live, and nothing of it was undone.
     pub fn is_running(&self, number: u64) -> bool
         ensures { IsTrue result ↔ IsRunning self.now number }
     {
-        self.is_live(number) && !self.live().is_falling(number)
+        let live = self.live();
+        let slot = live.slot(number);
+        let handle = Handle { number, slot };
+        live.is_live(handle) && !live.is_falling(handle)
     }
 
     // The record's step, from this very state.
@@ -454,8 +465,10 @@ impl<B: Parts + Coded> Machine<B> {
         ensures { IsTrue result ↔ (IsRunning self.now number ×
             (length (own number self.now.entries) < max_calls) × HasRoomFor self.now 1) }
     {
-        has_place(self.accounts.live(), self.accounts.wear(), number, 1)
-            && !self.live().is_falling(number)
+        let live = self.accounts.live();
+        let slot = live.slot(number);
+        let handle = Handle { number, slot };
+        has_place(live, self.accounts.wear(), handle, 1) && !live.is_falling(handle)
     }
 
     // Whether the call can get the reply, which has no value too long for the format, leaves
@@ -482,16 +495,15 @@ impl<B: Parts + Coded> Machine<B> {
             IsClear self.now.holds called.now.number called.now.collection
             (need_of called.now.call called.now.reply)) }
     {
-        !self.live().goes_twice(
-            called.number,
+        let live = self.live();
+        let number = called.number;
+        let slot = live.slot(number);
+        !live.goes_twice(
+            Handle { number, slot },
             called.collection,
             &called.call,
             &called.reply,
-        ) && self.is_clear(
-            called.number,
-            called.collection,
-            called.call.need(&called.reply),
-        )
+        ) && self.is_clear(number, called.collection, called.call.need(&called.reply))
     }
 
     // Whether no other transaction holds a need in the way.

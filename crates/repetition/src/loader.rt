@@ -19,7 +19,8 @@ ghost use Rattle.record_format.specs.Short.{AreShort, IsShortItem, IsShortReply}
 ghost use Rattle.machine.specs.Machine.{IsSettled};
 ghost use Rattle.undo_log.specs.LeftCalls.{GoesTwice};
 ghost use Rattle.machine.specs.Machines.{resting, StepAnswers, RepeatAnswers};
-ghost use Rattle.repetition.specs.Loading.{LoadRow, LoadAnswers, CanHoldCall, CanHoldLater, CanHold};
+ghost use Rattle.repetition.specs.Loading.{LoadRow, LoadAnswers, CanHoldCall, CanHoldLater};
+ghost use Rattle.repetition.specs.Loading.{CanHold};
 ghost use Rattle.repetition.specs.Loading.{HeldRow, IsPaired, LiveSteps};
 
 use crate::redoing::redo;
@@ -31,7 +32,7 @@ use records::{CallRecord, Coded, LaterRecord, Record, is_reached, is_short_reply
 use shelf::Shelf;
 use std::alloc::Global;
 use std::marker::Model;
-use undo_log::{Entry, Later, Live, Logged};
+use undo_log::{Entry, Handle, Later, Live, Logged};
 
 /// An image that is read, one record after another, and becomes a machine. Each record is tested.
 ///
@@ -244,9 +245,11 @@ impl<B: Parts + Coded> Loader<B> {
         ensures same { OnErr result (self.new ≡ self.old) }
         ensures refusal { IsOkUnless result Refusal.NoMemory }
     {
-        self.live.reserve(number)?;
+        let slot = self.live.slot(number);
+        let handle = Handle { number, slot };
+        self.live.reserve(handle)?;
         self.shelf.hold(number, entry.at(), entry.need())?;
-        self.live.push(number, entry);
+        self.live.push(handle, entry);
         Ok(())
     }
 
@@ -255,7 +258,9 @@ impl<B: Parts + Coded> Loader<B> {
         ensures { IsTrue result ↔ CanHoldCall B.meaning self.now called.now.number
             (event_of called.now) }
     {
-        has_place(&self.live, self.wear, called.number, 0)
+        let number = called.number;
+        let slot = self.live.slot(number);
+        has_place(&self.live, self.wear, Handle { number, slot }, 0)
             && self.can_ask(called)
             && self.is_apart(called)
     }
@@ -282,16 +287,14 @@ impl<B: Parts + Coded> Loader<B> {
             IsClear self.now.holds called.now.number called.now.collection
             (need_of called.now.call called.now.reply)) }
     {
+        let number = called.number;
+        let slot = self.live.slot(number);
         !self.live.goes_twice(
-            called.number,
+            Handle { number, slot },
             called.collection,
             &called.call,
             &called.reply,
-        ) && self.is_clear(
-            called.number,
-            called.collection,
-            called.call.need(&called.reply),
-        )
+        ) && self.is_clear(number, called.collection, called.call.need(&called.reply))
     }
 
     // Whether no other transaction holds a need in the way.
@@ -306,7 +309,9 @@ impl<B: Parts + Coded> Loader<B> {
         ensures { IsTrue result ↔ CanHoldLater B.meaning self.now later.now.number
             later.now.collection later.now.call }
     {
-        has_place(&self.live, self.wear, later.number, 0)
+        let number = later.number;
+        let slot = self.live.slot(number);
+        has_place(&self.live, self.wear, Handle { number, slot }, 0)
             && self
                 .parts()
                 .deferrable(later.collection, &later.call)

@@ -1,5 +1,6 @@
 // What stands in a line of a script.
 use crate::seconds::seconds;
+use crate::words::{natural, number};
 use std::fmt::{self, Display, Formatter};
 
 /// What may stand at a place of a line.
@@ -43,20 +44,13 @@ impl Thing {
     /// Whether a word is such a number or value; a word of another kind is taken for any.
     pub fn is(self, word: &str) -> bool {
         match self {
-            Thing::Natural => is_spelled_so(word) && word.parse::<u64>().is_ok(),
-            Thing::Number => {
-                is_spelled_so(word.strip_prefix("-").unwrap_or(word)) && word.parse::<i64>().is_ok()
-            }
+            Thing::Natural => natural(word.as_bytes()).is_some(),
+            Thing::Number => number(word.as_bytes()).is_some(),
             Thing::Seconds => seconds(word.as_bytes()).is_some(),
             Thing::Value => word == "-" || are_pairs(word.as_bytes()),
             _ => true,
         }
     }
-}
-
-// Whether digits have no sign and no zero too many.
-fn is_spelled_so(digits: &str) -> bool {
-    digits == "0" || !digits.starts_with('0') && !digits.starts_with('+')
 }
 
 // Whether a text is pairs of small hexadecimal digits.

@@ -21,12 +21,13 @@ pub enum Wish {
     Wait,
     /// A commit of the open transaction, and a wait until it is kept.
     Keep,
-    /// A transaction of these calls alone, some of which may be put off to its commit.
+    /// These calls, some of which may be put off to the commit, and a commit: of the transaction
+    /// that is open, and where none is of one of their own.
     Do(Vec<Request>),
     /// The same, and a wait until it is kept.
     DoAndKeep(Vec<Request>),
-    /// The same as `Do`, for which it waits until no call of it is Busy and none is answered nothing,
-    /// or up to that limit.
+    /// A transaction of these calls alone, for which it waits until no call of it is Busy and none
+    /// is answered nothing, or up to that limit.
     DoWithin(Limit, Vec<Request>),
     /// The same as `DoWithin`, and a wait until it is kept.
     KeepWithin(Limit, Vec<Request>),

@@ -11,6 +11,7 @@ use calls::limits::MAX_LIVE;
 use calls::{Bytes, Name};
 use hex::FromHexError;
 use itoa::Buffer;
+use memchr::memchr;
 use std::alloc::{AllocError, Global};
 
 // Whether two texts are one.
@@ -38,12 +39,8 @@ pub fn split_at_byte(text: &[u8], byte: u8) -> Option<(&[u8], &[u8])>
     ensures first { IfSome result (λ x. All (λ b. b ≢ byte) x.0.now) }
     ensures none { IfNone result (All (λ b. b ≢ byte) text.now) }
 {
-    for (i, b) in text.iter().enumerate() {
-        if *b == byte {
-            return Some((&text[..i], &text[i + 1..]));
-        }
-    }
-    None
+    let at = memchr(byte, text)?;
+    Some((&text[..at], &text[at + 1..]))
 }
 
 // The text as a name, where it is a word.

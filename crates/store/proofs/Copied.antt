@@ -40,7 +40,7 @@ use Rattle.desks.proofs.Telling.{along_told, gathered_back}
 use Rattle.desks.proofs.Touching.{known_is}
 use Rattle.store.specs.Gatherers.{GathererState, IsKnown, IsGatherer, IsGivenTo}
 use Rattle.store.specs.Gatherers.{as_next, Froze}
-use Rattle.store.specs.Turns.{IsCheckRefusal, IsFreezeRefusal}
+use Rattle.store.specs.Turns.{IsCopyRefusal, IsFreezeRefusal}
 use Rattle.store.proofs.Freezes.{desk_gathers}
 use Rattle.store.proofs.Gathers.{known_of_book, copied_of_book, repeats_both}
 
@@ -112,7 +112,7 @@ module _ {J S T N P : Type 0} (j : Ghosts J) {labels : N → List Label}
 -- Why a copy is refused.
 pub gather_refused : {S : Type 0} (collections : S → List Collection) (b c : BookState S)
     (g h : GatherState) (r : Result Bool Refusal) → BookGathers collections b g r c h →
-    IfErr r IsCheckRefusal
+    IfErr r IsCopyRefusal
 gather_refused collections b c g h (Ok more) answers = tt
 gather_refused collections b c g h (Err Refusal.Outrun) answers = tt
 gather_refused collections b c g h (Err Refusal.Worn) answers = tt

@@ -66,6 +66,7 @@ use Rattle.desks.proofs.Owning.{owned_alone}
 use Rattle.store.specs.Closing.{Closes}
 use Rattle.store.specs.Gatherers.{Froze}
 use Rattle.store.specs.Vaults.{LeavesSince, IsVault, IsKeptSince}
+use Rattle.store.proofs.Causes.{hold_caused}
 use Rattle.store.proofs.VaultSteps.{leaves_on, kept_on}
 
 abbrev Book : Type 0
@@ -438,6 +439,7 @@ module _ {J D : Type 0} (j : Ghosts J) (g : disks.Ghosts D) where
         mark = vault.mark;
         awaited = vault.awaited;
         marked = omega (arith, vault.marked, (held_same k _ l (Ok tt) answers).1);
+        caused = hold_caused k _ l (Ok tt) answers mark.stops vault.caused;
         noted = λ some. inl refl;
         received = λ s records state groups recorded carried begin apart.
             let room = covers s groups carried in

@@ -56,6 +56,7 @@ use Rattle.desks.proofs.signal.Signal.TheSendSync as signals
 use Rattle.waiting.proofs.queue.WaitQueue.TheSendSync as queues
 use Rattle.clients.proofs.awaiting.Awaiting.TheSendSync as awaitings
 use Rattle.clients.specs.contracts.client.Client as client
+use Rattle.txn.specs.contracts.journal.Journal as journal
 use Rattle.desks.specs.declared.naming.Naming as namings
 use Rattle.desks.specs.contracts.desk.Desk as desk
 use Rattle.desks.specs.contracts.lock.Lock as lock
@@ -63,8 +64,10 @@ use Rattle.desks.specs.contracts.shelves.Shelves as four_shelves
 use Rattle.store.specs.contracts.gatherer.Gatherer as gatherer
 use Rattle.store.specs.contracts.vault.Vault as vault
 use Rattle.desks.specs.contracts.shared.Shared as shared
+use Rattle.store.specs.contracts.stopping.Stopping as stopping
 use Rattle.store.specs.contracts.store.Store as store
 use Rattle.store.proofs.gatherer.Gatherer.TheSendSync as gatherers
+use Rattle.store.proofs.stopping.Stopping.TheSendSync as stoppings
 use Rattle.store.proofs.vault.Vault.TheSendSync as vaults
 
 pub pending_sends : IsSend the_row
@@ -118,8 +121,21 @@ module _ (J : RattleType) (n : namings.Ghosts J.Denot) (J_send : IsSend J) (J_sy
   shelves_sync = struct_sync (shape (four_shelves.the_type J B P N T n b c p m s t))
       (search parts depth 80 fits 100000)
 
+  journal_send : IsSend (journal.the_row B P N T b c p m s t)
+  journal_send = search parts depth 80 fits 100000
+
   desk_send : IsSend (desk.the_row J B P N T n b c p m s t)
-  desk_send = search parts depth 80 fits 100000
+  desk_send = search (
+    sendable,
+    crosses,
+    journal_send,
+    twin_nears.the_send,
+    seats.the_send,
+    senders.the_send,
+    nears.the_send,
+    makers.the_send,
+    watchers.the_send,
+  ) depth 80 fits 100000
 
   pub desk_sync : IsSync (lock.the_field (desk.the_row J B P N T n b c p m s t)).row
   desk_sync = struct_sync (shape (lock.the_type (desk.the_row J B P N T n b c p m s t)))
@@ -145,6 +161,9 @@ module _ (D J : RattleType) (n : namings.Ghosts J.Denot) (d : disks.Ghosts D.Den
   gatherer_sync : IsSync (mutex.the_row (gatherer.the_row J B P N T n b c p m s t))
   gatherer_sync = search (parts, gatherers.the_send) depth 80 fits 100000
 
+  stopping_sync : IsSync (mutex.the_row (stopping.the_row J n))
+  stopping_sync = search (parts, stoppings.the_send) depth 80 fits 100000
+
   pub any_store_sync : IsSync (store.the_row D J B P N T n b c p m s t d)
   any_store_sync = recorded_sync (store.the_field D J B P N T n b c p m s t d).row _ _
       (store.the_type D J B P N T n b c p m s t d).to_one
@@ -154,7 +173,13 @@ module _ (D J : RattleType) (n : namings.Ghosts J.Denot) (d : disks.Ghosts D.Den
           desk_sync J n J_send J_sync B P N T b c p m s t N_send T_send,
           (
             vault_sync,
-            (gatherer_sync, (shared_sync J n J_send J_sync B P N T b c p m s t N_send T_send, tt)),
+            (
+              gatherer_sync,
+              (
+                stopping_sync,
+                (shared_sync J n J_send J_sync B P N T b c p m s t N_send T_send, tt),
+              ),
+            ),
           ),
         ),
       ))

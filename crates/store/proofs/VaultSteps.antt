@@ -2,7 +2,7 @@
 use Rattle.calls.specs.declared.format.Format.{Format}
 use Rattle.std.proofs.Common.{◌≡◌, ◌≢◌, inl, inr, ℕ, ◌+◌, ◌≤◌, Some, None, Result, Ok, Err, List}
 use Rattle.std.proofs.Common.{[], ◌∷◌, ◌++◌, length, refl, sym, ap, ◌∙◌, subst, arith}
-use Rattle.std.proofs.Common.{append_assoc, ◌<◌, max, take}
+use Rattle.std.proofs.Common.{append_assoc, ◌<◌, max, take, true}
 use Rattle.std.specs.Prelude.{All}
 use Rattle.std.proofs.lemmas.List.Elements.{All-nil, All-push, All-append, All-weaker}
 use Rattle.std.specs.Borrow.{MutBor}
@@ -49,8 +49,10 @@ use Rattle.desks.specs.declared.naming.Naming.{Ghosts}
 use Rattle.desks.specs.Desks.{AreRecorded, PacksImages, frozen_ends}
 use Rattle.desks.proofs.Recording.{opened_stands}
 use Rattle.store.specs.Openings.{OpenedState, IsNamed}
-use Rattle.store.specs.Turns.{Brings, IsTurnRefusal, IsWithin, brought_to, flipped_to}
+use Rattle.store.specs.Turns.{Brings, IsTurnRefusal, IsWithin, StaysCaused, brought_to}
+use Rattle.store.specs.Turns.{flipped_to, stops_behind, stops_by}
 use Rattle.store.specs.Vaults.{LeavesSince, ReceivesAny, IsVault, IsKeptSince}
+use Rattle.store.proofs.Causes.{not_both}
 use Rattle.store.proofs.Ends.{received_back, received_there}
 
 abbrev Book : Type 0
@@ -206,6 +208,7 @@ module _ {D : Type 0} (g : disks.Ghosts D) where
         now ≡ record {
           table = seat.table;
           raised = brought_to seat.raised (g.moment l.disk) r;
+          stops = stops_behind r seat.stops;
         } → IsVault j g l after now near
     vault_turns k receiver seat near is r l after now brings only_now now_is = record {
       handoff = brings.receives.table ∙ is.handoff;
@@ -214,6 +217,8 @@ module _ {D : Type 0} (g : disks.Ghosts D) where
       marked = subst (λ (m : KeeperMark). (top m.raised).count ≤ l.mark) (sym now_is)
           (brought_within seat.raised (g.moment l.disk) l.mark r
           (omega (arith, is.marked, brings.rises)) brings.told);
+      caused = subst (λ (m : KeeperMark). 1 ≤ m.stops → l.failed ≡ true) (sym now_is)
+          (brings.caused seat.stops is.caused);
       noted = λ some. subst (Among near.gather) (sym brings.receives.noted)
           (is.noted some);
       received = λ s records state groups recorded carried begin apart.
@@ -276,15 +281,32 @@ module _ {D : Type 0} (g : disks.Ghosts D) where
         kept_brought records l raised (Ok Turn.Held) opened told below only_now stop all = all
         kept_brought records l raised (Err e) opened told below only_now stop all = all
 
+    -- the flag was set where the keeper has failed
+    pub vault_notes : (k : KeeperState D) (receiver : ReceiverState) (seat : KeeperMark)
+        (near : AccordState) → IsVault j g k receiver seat near → (stops : ℕ) →
+        (1 ≤ stops → k.failed ≡ true) →
+        IsVault j g k receiver (record seat { stops = stops }) near
+    vault_notes k receiver seat near is stops caused = record {
+      handoff = is.handoff;
+      mark = is.mark;
+      awaited = is.awaited;
+      marked = is.marked;
+      caused = caused;
+      noted = is.noted;
+      received = is.received;
+    }
+
     -- a piece of an image
     pub vault_images : (k : KeeperState D) (receiver : ReceiverState) (seat : KeeperMark)
         (near : AccordState) → IsVault j g k receiver seat near → (l : KeeperState D) →
-        ImageKeeps g k l → k.mark ≤ l.mark → IsVault j g l receiver seat near
-    vault_images k receiver seat near is l keeps rises = record {
+        ImageKeeps g k l → k.mark ≤ l.mark → (stops : ℕ) → (1 ≤ stops → l.failed ≡ true) →
+        IsVault j g l receiver (record seat { stops = stops }) near
+    vault_images k receiver seat near is l keeps rises stops caused = record {
       handoff = is.handoff;
       mark = is.mark;
       awaited = is.awaited;
       marked = omega (arith, is.marked, rises);
+      caused = caused;
       noted = is.noted;
       received = λ s records state groups recorded carried begin apart.
           let had = is.received s records state groups recorded carried begin apart in
@@ -302,21 +324,25 @@ module _ {D : Type 0} (g : disks.Ghosts D) where
     pub vault_flips : (k : KeeperState D) (receiver : ReceiverState) (seat : KeeperMark)
         (near : AccordState) → IsVault j g k receiver seat near → (r : Result ℕ Refusal)
         (l : KeeperState D) (now : KeeperMark) → ImageKeeps g k l → k.mark ≤ l.mark →
-        mark_flipped k.mark r ≡ l.mark → Since l.disk →
+        mark_flipped k.mark r ≡ l.mark → Since l.disk → StaysCaused r k.failed l.failed →
         now ≡ record {
           table = seat.table;
           raised = flipped_to seat.raised (g.moment l.disk) r;
+          stops = stops_behind r seat.stops;
         } → IsVault j g l receiver now near
-    vault_flips k receiver seat near is (Err e) l now keeps rises flipped only_now now_is =
+    vault_flips k receiver seat near is (Err e) l now keeps rises flipped only_now caused now_is =
         subst (λ (m : KeeperMark). IsVault j g l receiver m near) (sym now_is)
-        (vault_images k receiver seat near is l keeps rises)
-    vault_flips k receiver seat near is (Ok place) l now keeps rises flipped only_now now_is =
-        let laid = vault_images k receiver seat near is l keeps rises in
+        (vault_images k receiver seat near is l keeps rises (stops_by e seat.stops)
+        (caused seat.stops is.caused))
+    vault_flips k receiver seat near is (Ok place) l now keeps rises flipped only_now caused now_is =
+        let laid = vault_images k receiver seat near is l keeps rises seat.stops
+        (caused seat.stops is.caused) in
         subst (λ (m : KeeperMark). IsVault j g l receiver m near) (sym now_is) (record {
           handoff = is.handoff;
           mark = is.mark;
           awaited = is.awaited;
           marked = omega (arith, is.marked, rises, flipped);
+          caused = laid.caused;
           noted = is.noted;
           received = λ s records state groups recorded carried begin apart.
               let had = laid.received s records state groups recorded carried begin apart in (
@@ -332,12 +358,14 @@ module _ {D : Type 0} (g : disks.Ghosts D) where
     pub vault_begins : (k : KeeperState D) (receiver : ReceiverState) (seat : KeeperMark)
         (near : AccordState) → IsVault j g k receiver seat near → (image : Image) (behind : ℕ)
         (l : KeeperState D) (r : Result (Unit {0}) Refusal) → Packs near.gather image →
-        BeginAnswers k image behind l r → BeginKeeps g image r k l → IsVault j g l receiver seat near
-    vault_begins k receiver seat near is image behind l r packs answers keeps = record {
+        BeginAnswers k image behind l r → BeginKeeps g image r k l → (stops : ℕ) →
+        (1 ≤ stops → l.failed ≡ true) → IsVault j g l receiver (record seat { stops = stops }) near
+    vault_begins k receiver seat near is image behind l r packs answers keeps stops caused = record {
       handoff = is.handoff;
       mark = is.mark;
       awaited = is.awaited;
       marked = omega (arith, is.marked, (begun_same k image behind l r answers).1);
+      caused = caused;
       noted = is.noted;
       received = λ s records state groups recorded carried begin apart.
           let had = is.received s records state groups recorded carried begin apart in
@@ -368,6 +396,7 @@ module _ {D : Type 0} (g : disks.Ghosts D) where
           mark = is.mark;
           awaited = is.awaited;
           marked = is.marked;
+          caused = is.caused;
           noted = λ some. absurd (some refl);
           received = is.received;
         })
@@ -392,6 +421,16 @@ turn_refused g k l before after (Err Refusal.Failed) a = tt
 turn_refused g k l before after (Err Refusal.Full) a = tt
 turn_refused g k l before after (Err Refusal.Fault) a = tt
 turn_refused g k l before after (Err e) a = absurd a.1.2.2
+
+-- a turn that is told as a fault is one of a keeper that has failed
+turn_caused : {D : Type 0} (g : disks.Ghosts D) (k l : KeeperState D)
+    (before after : MutBor ReceiverState) (r : Result Turn Refusal) →
+    Answered g k l before after r → StaysCaused r k.failed l.failed
+turn_caused g k l before after (Err Refusal.Failed) a stops was said = a.5
+turn_caused g k l before after (Err Refusal.Fault) a stops was said = a.1.2.2.3
+turn_caused g k l before after (Err e) a stops was said = not_both k.failed (was said) a.0
+turn_caused g k l before after (Ok Turn.Idle) a stops was said = not_both k.failed (was said) a.0
+turn_caused g k l before after (Ok turn) a stops was said = not_both k.failed (was said) a.0
 
 brought_mark : (m n : ℕ) (r : Result Turn Refusal) → mark_behind m r ≡ n → m ≤ n →
     IsWithin r n
@@ -434,4 +473,5 @@ turn_brings g k l before after left back r answers keeps stage =
       rises = rises;
       told = brought_mark k.mark l.mark r is rises;
       refused = turn_refused g k l before after r answers;
+      caused = turn_caused g k l before after r answers;
     }

@@ -1,5 +1,6 @@
 -- What a turn tells of the mark.
-use Rattle.std.specs.Prelude.{◌≡◌, ℕ, ◌≤◌, true, List, ◌++◌, Result, Ok, Err, IfErr}
+use Rattle.std.specs.Prelude.{◌≡◌, ℕ, ◌≤◌, ◌+◌, Bool, true, List, ◌++◌, Result, Ok, Err, IfErr}
+use Rattle.atomic_table.specs.Seated.{TableId}
 use Rattle.calls.specs.declared.refusal.Refusal.{Refusal}
 use Rattle.disk_model.specs.declared.disk.Disk as disks
 use Rattle.blocks.specs.declared.block.Block.{Block}
@@ -8,7 +9,7 @@ use Rattle.checkpoint.specs.Keepers.{KeeperState}
 use Rattle.checkpoint.specs.Keeping.{TurnKeeps}
 use Rattle.group_commit.specs.Orders.{ReceiverState}
 use Rattle.group_commit.specs.declared.mark.Raised.{Raised}
-use Rattle.group_commit.specs.Marks.{WatcherState, with_count, with_flag}
+use Rattle.group_commit.specs.Marks.{WatcherState, new_watcher, with_count, with_stop}
 use Rattle.group_commit.specs.Rising.{raised_to}
 use Rattle.store.specs.declared.checkpointing.Checkpoint.{Checkpoint}
 
@@ -26,11 +27,41 @@ abbrev pub IsWithin : Result Turn Refusal → ℕ → Type 0
 IsWithin (Ok (Turn.Kept place)) mark = place ≤ mark
 IsWithin r mark = Unit {0}
 
--- A keeper that met a fault sets the failed flag.
+-- what a committer has loaded of the mark, or was told; and how often it stopped
+pub record CommitterState : Type 0 where
+  pub watched : WatcherState
+  pub stops : ℕ
+
+-- a committer that took no turn
+abbrev pub new_committer : TableId → CommitterState
+new_committer table = record { watched = new_watcher table; stops = 0 }
+
+-- Where the keeper met a fault, the failed flag is set, and the watcher told of it.
 abbrev pub Fails : WatcherState → Refusal → WatcherState → Type 0
-Fails old Refusal.Fault new = new ≡ with_flag old true
-Fails old Refusal.Failed new = new ≡ with_flag old true
+Fails old Refusal.Fault new = new ≡ with_stop old
+Fails old Refusal.Failed new = new ≡ with_stop old
 Fails old e new = new ≡ old
+
+abbrev pub FailsWith : {T : Type 0} → WatcherState → Result T Refusal → WatcherState → Type 0
+FailsWith old (Ok done) new = new ≡ old
+FailsWith old (Err e) new = Fails old e new
+
+-- how often the keeper's seat has set the failed flag, behind a refusal of its keeper
+abbrev pub stops_by : Refusal → ℕ → ℕ
+stops_by Refusal.Fault stops = stops + 1
+stops_by Refusal.Failed stops = stops + 1
+stops_by e stops = stops
+
+-- and behind an answer
+abbrev pub stops_behind : {T : Type 0} → Result T Refusal → ℕ → ℕ
+stops_behind (Ok done) stops = stops
+stops_behind (Err e) stops = stops_by e stops
+
+-- Where the keeper's seat has set the flag only if the keeper has failed, it is so behind an answer
+-- too. failed, fails: whether the keeper has failed, before and after it.
+abbrev pub StaysCaused : {T : Type 0} → Result T Refusal → Bool → Bool → Type 0
+StaysCaused r failed fails =
+    (stops : ℕ) → (1 ≤ stops → failed ≡ true) → 1 ≤ stops_behind r stops → fails ≡ true
 
 -- The mark had reached the place, at a moment.
 abbrev pub Reaches : WatcherState → ℕ → WatcherState → Type 0
@@ -53,6 +84,13 @@ IsCheckRefusal Refusal.Full = Unit {0}
 IsCheckRefusal Refusal.Failed = Unit {0}
 IsCheckRefusal Refusal.Fault = Unit {0}
 IsCheckRefusal e = ⊥
+
+-- Why a copy is refused.
+abbrev pub IsCopyRefusal : Refusal → Type 0
+IsCopyRefusal Refusal.NoMemory = Unit {0}
+IsCopyRefusal Refusal.Outrun = Unit {0}
+IsCopyRefusal Refusal.Worn = Unit {0}
+IsCopyRefusal e = ⊥
 
 -- Why a freeze is refused: so, or as a collection is left to copy, or as an image is in progress.
 abbrev pub IsFreezeRefusal : Refusal → Type 0
@@ -95,3 +133,4 @@ pub record Brings {D : Type 0} (g : disks.Ghosts D) (k : KeeperState D) (receive
   pub rises : k.mark ≤ l.mark
   pub told : IsWithin r l.mark
   pub refused : IfErr r IsTurnRefusal
+  pub caused : StaysCaused r k.failed l.failed

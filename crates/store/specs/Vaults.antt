@@ -1,5 +1,5 @@
 -- What lies under the keeper's lock.
-use Rattle.std.specs.Prelude.{◌≡◌, ◌≢◌, ◌⊎◌, ℕ, ◌≤◌, List, Some, None, All}
+use Rattle.std.specs.Prelude.{◌≡◌, ◌≢◌, ◌⊎◌, ℕ, ◌≤◌, true, List, Some, None, All}
 use mathlib.Core.List.{IsPrefix}
 use Rattle.disk_model.specs.declared.disk.Disk as disks
 use Rattle.record_format.specs.declared.record.Record.{Record}
@@ -60,12 +60,14 @@ abbrev pub Awaits : Stage → GatherState → Type 0
 Awaits stage g = (f : FrozenState) → g.frozen ≡ Some f →
     stage ≡ Stage.Awaited (record { end = f.marks.end; place = f.marks.place })
 
--- The mark is not past what the keeper has kept. What is known to be frozen was noted.
+-- The mark is not past what the keeper has kept. The keeper's seat has set the failed flag only where
+-- the keeper has failed. What is known to be frozen was noted.
 pub record IsVault {J D : Type 0} (j : Ghosts J) (g : disks.Ghosts D) (keeper : KeeperState D)
     (receiver : ReceiverState) (seat : KeeperMark) (near : AccordState) : Type 0 where
   pub handoff : receiver.table ≡ j.handoff
   pub mark : seat.table ≡ j.mark
   pub awaited : near.table ≡ j.awaited
   pub marked : (top seat.raised).count ≤ keeper.mark
+  pub caused : 1 ≤ seat.stops → keeper.failed ≡ true
   pub noted : near.gather.frozen ≢ None → Among near.gather receiver.noted
   pub received : j.sound → ReceivesAny j g receiver.noted receiver.received seat.raised keeper

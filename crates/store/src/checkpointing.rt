@@ -3,7 +3,7 @@ ghost use Rattle.std.specs.Prelude.{◌≡◌, IfErr, IfNone, IfSome};
 ghost use Rattle.store.specs.Turns.{CheckTells, IsCheckRefusal};
 
 use crate::gatherer::Gatherer;
-use crate::vault::{Vault, note_failure};
+use crate::vault::Vault;
 use calls::Refusal;
 use catalog::Catalog;
 use desks::{Desk, Fill, Lock, Naming, Shared, Shelves};
@@ -137,12 +137,13 @@ impl<'s, D: Disk, J: Naming, B: Coded> Checkpointer<'s, D, J, B> {
         ensures refused { IfErr result IsCheckRefusal }
     {
         let gatherer = self.gatherer;
-        let prepared = gatherer
-            .lock(rt)
-            .turn(rt, self.shared, self.shelves, self.desk, self.vault);
-        if let Err(refusal) = &prepared {
-            note_failure(&self.shared.mark, &mut self.watcher, *refusal);
-        }
-        prepared
+        gatherer.lock(rt).turn(
+            rt,
+            self.shared,
+            self.shelves,
+            self.desk,
+            self.vault,
+            &mut self.watcher,
+        )
     }
 }

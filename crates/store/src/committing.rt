@@ -1,6 +1,5 @@
 // Committers of a store.
-ghost use Rattle.std.specs.Prelude.{◌≡◌, true, IfErr};
-ghost use Rattle.group_commit.specs.Marks.{with_flag};
+ghost use Rattle.std.specs.Prelude.{◌≡◌, ◌+◌, IfErr};
 ghost use Rattle.store.specs.Turns.{TurnTells, IsTurnRefusal};
 
 use crate::vault::Vault;
@@ -10,30 +9,32 @@ use checkpoint::Turn;
 use desks::{Desk, Lock, Naming, Shared};
 use disk_model::Disk;
 use engine::told;
-use group_commit::Watcher;
+use group_commit::{Stopper, Watcher};
 use records::Coded;
 use std::marker::Model;
 use std::sync::{Mutex, Wait};
 
 /// Brings what a store's clients did to its disk, block by block. One thread has it at a time, and
-/// takes its turns in a loop. Contracts see what it has loaded of the mark.
+/// takes its turns in a loop. Contracts see what it has loaded of the mark, and how often it
+/// stopped.
 #[derive(Drop)]
 pub struct Committer<'s, D: Disk, J: Naming, B: Coded = Catalog> {
     desk: &'s Lock<Desk<J, B>>,
     vault: &'s Mutex<Vault<D, J>>,
     shared: &'s Shared<J>,
     watcher: Watcher,
+    stopper: Stopper,
 }
 
 impl<'s, D: Disk, J: Naming, B: Coded> Model for Committer<'s, D, J, B> {
     ghost use Rattle.std.specs.Prelude.{◌≡◌};
-    ghost use Rattle.group_commit.specs.Marks.{WatcherState};
+    ghost use Rattle.store.specs.Turns.{CommitterState};
 
-    ghost Value = { WatcherState };
+    ghost Value = { CommitterState };
 
-    ghost view = { λ c. c.watcher };
+    ghost view = { λ c. record { watched = c.watcher; stops = c.stopper.stops } };
 
-    ghost invariant = { λ c. c.watcher.table ≡ J.mark };
+    ghost invariant = { λ c. (c.watcher.table ≡ J.mark) × (c.stopper.table ≡ J.mark) };
 }
 
 impl<'s, D: Disk, J: Naming, B: Coded> Committer<'s, D, J, B> {
@@ -42,15 +43,18 @@ impl<'s, D: Disk, J: Naming, B: Coded> Committer<'s, D, J, B> {
         vault: &'s Mutex<Vault<D, J>>,
         shared: &'s Shared<J>,
         watcher: Watcher,
+        stopper: Stopper,
     ) -> Self
-        requires { watcher.table ≡ J.mark }
-        ensures { result ≡ watcher }
+        requires watcher { watcher.table ≡ J.mark }
+        requires stopper { stopper.table ≡ J.mark }
+        ensures { result ≡ record { watched = watcher; stops = stopper.stops } }
     {
         Self {
             desk,
             vault,
             shared,
             watcher,
+            stopper,
         }
     }
 
@@ -71,7 +75,8 @@ impl<'s, D: Disk, J: Naming, B: Coded> Committer<'s, D, J, B> {
     /// room. After Fault and Failed each client that waits is told Lost, and the disk is to be
     /// opened again.
     pub fn turn<R: Wait>(&mut self, rt: &R) -> Result<Turn, Refusal>
-        ensures tells { TurnTells self.old result self.new }
+        ensures tells { TurnTells self.old.watched result self.new.watched }
+        ensures stops { self.new.stops ≡ self.old.stops }
         ensures refused { IfErr result IsTurnRefusal }
     {
         let desk = self.desk;
@@ -93,8 +98,8 @@ impl<'s, D: Disk, J: Naming, B: Coded> Committer<'s, D, J, B> {
     /// Tells every client that waits for a ticket which is not kept yet, now or later, that it is
     /// Lost. For a committer that takes no more turns. It takes no memory, and waits for nobody.
     pub fn stop(&mut self)
-        ensures { self.new ≡ with_flag self.old true }
+        ensures { self.new ≡ record self.old { stops = self.old.stops + 1 } }
     {
-        self.shared.mark.fail(&mut self.watcher);
+        self.shared.mark.stop(&mut self.stopper);
     }
 }

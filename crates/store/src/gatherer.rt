@@ -1,6 +1,6 @@
 // What is gathered of the book for an image, up to where the keeper begins it.
-ghost use Rattle.std.specs.Prelude.{◌≡◌, ◌≢◌, ◌⊎◌, None, Err, OnOk, OnErr, IfOk, IfErr};
-ghost use Rattle.std.specs.Prelude.{IsSome, IsFalse, IfSome, Result, length, string_bytes};
+ghost use Rattle.std.specs.Prelude.{◌≡◌, ◌≢◌, ◌⊎◌, ◌↔◌, None, Err, OnOk, OnErr, IfOk, IfErr};
+ghost use Rattle.std.specs.Prelude.{IsSome, IsTrue, IfSome, IfNone, Result, length, string_bytes};
 ghost use Rattle.calls.specs.Names.{IsName};
 ghost use Rattle.calls.specs.declared.refusal.Refusal.{Refusal};
 ghost use Rattle.catalog.specs.declared.four.Four.{Four};
@@ -22,17 +22,18 @@ ghost use Rattle.desks.specs.Notes.{alone};
 ghost use Rattle.desks.specs.Told.{told_book};
 ghost use Rattle.desks.specs.Touches.{IsJournalDesk};
 ghost use Rattle.store.specs.Gatherers.{IsKnown, IsGivenTo, as_next, Froze};
-ghost use Rattle.store.specs.Turns.{IsPrepared, IsCheckRefusal, IsFreezeRefusal};
+ghost use Rattle.store.specs.Turns.{CheckTells, FailsWith, IsPrepared, IsCheckRefusal};
+ghost use Rattle.store.specs.Turns.{IsCopyRefusal, IsFreezeRefusal};
 
 use crate::checkpointing::Checkpoint;
-use crate::vault::Vault;
+use crate::vault::{Vault, failure_told};
 use blocks::Image;
 use calls::Refusal;
 use catalog::{Part, Shelved};
 use checkpoint::Keeper;
 use desks::{Desk, Lock, Naming, Quarter, Shared, ShelfDesk, Shelves, note_alone};
 use disk_model::Disk;
-use group_commit::{Accord, BookSeat, Far, Handoff, Near, OneGather, Receiver, Sender};
+use group_commit::{Accord, BookSeat, Far, Handoff, Near, OneGather, Receiver, Sender, Watcher};
 use images::Gather;
 use records::Coded;
 use std::alloc::Global;
@@ -121,20 +122,48 @@ impl<J: Naming, B: Coded> Gatherer<J, B> {
         shelves: &Shelves<J, B>,
         desk: &Lock<Desk<J, B>>,
         vault: &Mutex<Vault<D, J>>,
+        watcher: &mut Watcher,
     ) -> Result<Checkpoint, Refusal>
+        requires { watcher.old.table ≡ J.mark }
+        ensures tells { CheckTells watcher.old result watcher.new }
         ensures prepared { IfOk result IsPrepared }
         ensures refused { IfErr result IsCheckRefusal }
     {
         if self.gather.marks().is_some() {
-            return self.pack(rt, shared, vault);
+            return self.pack(rt, shared, vault, watcher);
         }
-        if mem::replace(&mut self.is_whole, false) {
-            match self.freeze(rt, shared, shelves, desk, vault) {
-                Err(refusal) if goes_on(refusal) => {}
-                frozen => return frozen,
-            }
+        if let Some(frozen) = self.freeze_whole(rt, shared, shelves, desk, vault, watcher) {
+            return frozen;
         }
         self.copy(rt, shared, shelves, desk)
+    }
+
+    // Freezes the book where all collections are copied. None where they are not, or a gathering is
+    // to go on all the same.
+    fn freeze_whole<D: Disk, R: Wait>(
+        &mut self,
+        rt: &R,
+        shared: &Shared<J>,
+        shelves: &Shelves<J, B>,
+        desk: &Lock<Desk<J, B>>,
+        vault: &Mutex<Vault<D, J>>,
+        watcher: &mut Watcher,
+    ) -> Option<Result<Checkpoint, Refusal>>
+        requires watcher { watcher.old.table ≡ J.mark }
+        requires unfrozen { self.old.gather.frozen ≡ None }
+        ensures tells { IfSome result (λ r. CheckTells watcher.old r watcher.new) }
+        ensures prepared { IfSome result (λ r. IfOk r IsPrepared) }
+        ensures refused { IfSome result (λ r. IfErr r IsCheckRefusal) }
+        ensures none { IfNone result (watcher.new ≡ watcher.old) }
+        ensures unfrozen { IfNone result (self.new.gather.frozen ≡ None) }
+    {
+        if !mem::replace(&mut self.is_whole, false) {
+            return None;
+        }
+        match self.freeze(rt, shared, shelves, desk, vault, watcher) {
+            Err(refusal) if goes_on(refusal) => None,
+            frozen => Some(frozen),
+        }
     }
 
     // Copies the next collection, and repeats on the copies what was run behind them under no lock
@@ -148,7 +177,7 @@ impl<J: Naming, B: Coded> Gatherer<J, B> {
     ) -> Result<Checkpoint, Refusal>
         requires { self.old.gather.frozen ≡ None }
         ensures prepared { IfOk result IsPrepared }
-        ensures refused { IfErr result IsCheckRefusal }
+        ensures refused { IfErr result IsCopyRefusal }
     {
         match self.copy_next(rt, shared, shelves, desk) {
             Ok(more) => {
@@ -174,7 +203,7 @@ impl<J: Naming, B: Coded> Gatherer<J, B> {
     ) -> Result<bool, Refusal>
         requires { self.old.gather.frozen ≡ None }
         ensures unfrozen { self.new.gather.frozen ≡ None }
-        ensures refused { IfErr result IsCheckRefusal }
+        ensures refused { IfErr result IsCopyRefusal }
     {
         for _ in rt.forever() {
             if let Some(copied) = self.try_copy(rt, shared, shelves, desk) {
@@ -195,7 +224,7 @@ impl<J: Naming, B: Coded> Gatherer<J, B> {
     ) -> Option<Result<bool, Refusal>>
         requires { self.old.gather.frozen ≡ None }
         ensures unfrozen { self.new.gather.frozen ≡ None }
-        ensures refused { IfSome result (λ r. IfErr r IsCheckRefusal) }
+        ensures refused { IfSome result (λ r. IfErr r IsCopyRefusal) }
     {
         let found = self.find_next(shared, &mut desk.lock(rt));
         match found {
@@ -215,7 +244,7 @@ impl<J: Naming, B: Coded> Gatherer<J, B> {
         ensures number { IfOk result (λ next. next.at ≡ length self.new.gather.parts) }
         ensures name { IfOk result (λ next. IsName (string_bytes next.name)) }
         ensures unfrozen { self.new.gather.frozen ≡ None }
-        ensures refused { IfErr result (λ r. IfErr r IsCheckRefusal) }
+        ensures refused { IfErr result (λ r. IfErr r IsCopyRefusal) }
     {
         match next_of(&desk.journal, &self.gather) {
             Ok(next) => Ok(next),
@@ -244,7 +273,7 @@ impl<J: Naming, B: Coded> Gatherer<J, B> {
         requires name { IsName (string_bytes next.now.name) }
         requires unfrozen { self.old.gather.frozen ≡ None }
         ensures unfrozen { self.new.gather.frozen ≡ None }
-        ensures refused { IfSome result (λ r. IfErr r IsCheckRefusal) }
+        ensures refused { IfSome result (λ r. IfErr r IsCopyRefusal) }
     {
         if next.at % 4 == 0 {
             return self.copy_on(rt, shared, shelves, &shelves.first, desk, next);
@@ -274,7 +303,7 @@ impl<J: Naming, B: Coded> Gatherer<J, B> {
         requires name { IsName (string_bytes next.now.name) }
         requires unfrozen { self.old.gather.frozen ≡ None }
         ensures unfrozen { self.new.gather.frozen ≡ None }
-        ensures refused { IfSome result (λ r. IfErr r IsCheckRefusal) }
+        ensures refused { IfSome result (λ r. IfErr r IsCopyRefusal) }
     {
         shelf.give_way(rt);
         let mut held = shelf.lock(rt);
@@ -301,7 +330,7 @@ impl<J: Naming, B: Coded> Gatherer<J, B> {
         requires refused { IfErr part (CopyRefused (B.Shelf.holds held.old.now next.now.at)) }
         requires unfrozen { self.old.gather.frozen ≡ None }
         ensures unfrozen { self.new.gather.frozen ≡ None }
-        ensures refused { IfSome result (λ r. IfErr r IsCheckRefusal) }
+        ensures refused { IfSome result (λ r. IfErr r IsCopyRefusal) }
     {
         if !desk.journal.is_at(&next.name, next.at) {
             return None;
@@ -321,7 +350,7 @@ impl<J: Naming, B: Coded> Gatherer<J, B> {
     }
 
     // Freezes the book under the locks of the keeper, of all shelves and of the journal, and holds
-    // the end of its image.
+    // the end of its image. Where the keeper has failed, the failed flag is set.
     fn freeze<D: Disk, R: Wait>(
         &mut self,
         rt: &R,
@@ -329,8 +358,11 @@ impl<J: Naming, B: Coded> Gatherer<J, B> {
         shelves: &Shelves<J, B>,
         desk: &Lock<Desk<J, B>>,
         vault: &Mutex<Vault<D, J>>,
+        watcher: &mut Watcher,
     ) -> Result<Checkpoint, Refusal>
-        requires { self.old.gather.frozen ≡ None }
+        requires watcher { watcher.old.table ≡ J.mark }
+        requires unfrozen { self.old.gather.frozen ≡ None }
+        ensures tells { CheckTells watcher.old result watcher.new }
         ensures prepared { IfOk result IsPrepared }
         ensures refused { IfErr result IsFreezeRefusal }
         ensures unfrozen { OnErr result (self.new.gather.frozen ≡ None) }
@@ -342,6 +374,7 @@ impl<J: Naming, B: Coded> Gatherer<J, B> {
             shared,
             &mut desk,
             &mut vault,
+            watcher,
             &mut self.gather,
             &mut self.of_book,
             &mut self.of_keeper,
@@ -366,8 +399,11 @@ impl<J: Naming, B: Coded> Gatherer<J, B> {
         rt: &R,
         shared: &Shared<J>,
         vault: &Mutex<Vault<D, J>>,
+        watcher: &mut Watcher,
     ) -> Result<Checkpoint, Refusal>
-        requires { IsSome self.old.gather.frozen }
+        requires watcher { watcher.old.table ≡ J.mark }
+        requires frozen { IsSome self.old.gather.frozen }
+        ensures tells { CheckTells watcher.old result watcher.new }
         ensures prepared { IfOk result IsPrepared }
         ensures refused { IfErr result IsCheckRefusal }
     {
@@ -376,6 +412,7 @@ impl<J: Naming, B: Coded> Gatherer<J, B> {
                 begin(
                     shared,
                     &mut vault.lock(rt),
+                    watcher,
                     &mut self.of_keeper,
                     image,
                     blocks_len(self.undoing),
@@ -393,7 +430,7 @@ impl<J: Naming, B: Coded> Gatherer<J, B> {
 // Whether a gathering goes on behind a freeze that was refused so: a collection is left to copy, or
 // an image is in progress.
 fn goes_on(refusal: Refusal) -> bool
-    ensures { IsFalse result → IsFreezeRefusal refusal → IsCheckRefusal refusal }
+    ensures { IsTrue result ↔ ((refusal ≡ Refusal.Unfinished) ⊎ (refusal ≡ Refusal.Imaging)) }
 {
     matches!(refusal, Refusal::Unfinished | Refusal::Imaging)
 }
@@ -453,7 +490,7 @@ fn gather_part<J: Naming, B: Coded>(
     ensures seat { seat.new ≡ stepped seat.old (alone (Action.Gather result)) }
     ensures far { far.new ≡ record { table = J.gathering; gather = gather.new } }
     ensures unfrozen { gather.new.frozen ≡ None }
-    ensures refused { IfErr result IsCheckRefusal }
+    ensures refused { IfErr result IsCopyRefusal }
 {
     shared.gathering.compare(near, far);
     let copied = journal.gather(part, gather);
@@ -470,14 +507,17 @@ fn freeze<D: Disk, J: Naming, B: Coded>(
     shared: &Shared<J>,
     desk: &mut Desk<J, B>,
     vault: &mut Vault<D, J>,
+    watcher: &mut Watcher,
     gather: &mut Gather<B::Part>,
     of_book: &mut Far,
     of_keeper: &mut Far,
 ) -> Result<(), Refusal>
+    requires watcher { watcher.old.table ≡ J.mark }
     requires book { of_book.old.table ≡ J.gathering }
     requires keeper { of_keeper.old.table ≡ J.awaited }
     requires known { IsKnown of_book.old gather.old }
     requires unfrozen { gather.old.frozen ≡ None }
+    ensures watcher { FailsWith watcher.old result watcher.new }
     ensures book { of_book.new ≡ of_book.old }
     ensures ok { OnOk result ((gather.new.frozen ≢ None) ×
         (of_keeper.new ≡ record { table = J.awaited; gather = gather.new })) }
@@ -491,6 +531,7 @@ fn freeze<D: Disk, J: Naming, B: Coded>(
         .compare(&mut desk.sender, &mut vault.receiver);
     let frozen = freeze_journal(&mut desk.journal, &mut vault.keeper, gather);
     note_alone::<Brand, _>(&shared.line, &mut desk.seat, &frozen);
+    failure_told(&shared.mark, &mut vault.mark, watcher, &frozen);
     frozen?;
     let shown = Snapshot::of(gather);
     note_frozen::<Brand, _>(
@@ -534,17 +575,21 @@ fn freeze_journal<D: Disk, B: Coded>(
 fn begin<D: Disk, J: Naming>(
     shared: &Shared<J>,
     vault: &mut Vault<D, J>,
+    watcher: &mut Watcher,
     far: &mut Far,
     image: Image,
     behind: u64,
 ) -> Result<(), Refusal>
+    requires watcher { watcher.old.table ≡ J.mark }
     requires table { far.old.table ≡ J.awaited }
     requires packs { Packs far.old.gather image }
+    ensures watcher { FailsWith watcher.old result watcher.new }
     ensures far { far.new ≡ record { table = J.awaited; gather = nothing_gathered } }
     ensures refused { IfErr result IsCheckRefusal }
 {
     shared.awaited.compare(&mut vault.near, far);
     let begun = vault.keeper.begin_image(image, behind);
+    failure_told(&shared.mark, &mut vault.mark, watcher, &begun);
     shared.awaited.agree::<Brand>(&mut vault.near, far);
     begun
 }

@@ -59,6 +59,7 @@ mod committing;
 mod crossing;
 mod gatherer;
 mod opened;
+mod stopping;
 mod store;
 mod twins;
 mod vault;

@@ -15,6 +15,7 @@ ghost use Rattle.desks.specs.Told.{told_book};
 ghost use Rattle.store.specs.Openings.{IsNamed};
 
 use crate::gatherer::Gatherer;
+use crate::stopping::Stopping;
 use crate::store::Store;
 use crate::twins::Twins;
 use crate::vault::Vault;
@@ -25,7 +26,7 @@ use desks::{Desk, Extent, Naming, Shared, Shelves, Signal, WaitQueue};
 use disk_model::Disk;
 use group_commit::{
     Accord, BookSeat, DrawerMaker, Far, Handoff, KeeperSeat, Line, Mark, Near, Numbers, Receiver,
-    Sender, Watcher,
+    Sender, Stopper, Watcher,
 };
 use records::Coded;
 use recovery::open;
@@ -64,6 +65,7 @@ struct Parts<B: Coded> {
     seat: BookSeat,
     mark: Mark,
     kept: KeeperSeat,
+    stopper: Stopper,
     watcher: Watcher,
     numbers: Numbers,
     maker: DrawerMaker,
@@ -84,7 +86,7 @@ struct Parts<B: Coded> {
 impl<B: Coded> Model for Parts<B> {
     ghost use Rattle.std.specs.Prelude.{◌≡◌, []};
     ghost use Rattle.group_commit.specs.Accords.{nothing_gathered};
-    ghost use Rattle.group_commit.specs.Marks.{new_watcher};
+    ghost use Rattle.group_commit.specs.Marks.{new_keeper, new_stopper, new_watcher};
     ghost use Rattle.store.specs.Openings.{Tables};
 
     ghost Value = { Tables };
@@ -101,7 +103,7 @@ impl<B: Coded> Model for Parts<B> {
     } };
 
     ghost invariant = { λ p. (p.seat ≡ record { table = p.line; all = []; clients = 0 })
-        × (p.kept ≡ record { table = p.mark; raised = [] })
+        × (p.kept ≡ new_keeper p.mark)
         × (p.watcher ≡ new_watcher p.mark)
         × (p.maker ≡ record {
           table = p.numbers;
@@ -114,7 +116,8 @@ impl<B: Coded> Model for Parts<B> {
         × (p.gathered_near ≡ record { table = p.gathering; gather = nothing_gathered })
         × (p.gathered_far ≡ record { table = p.gathering; gather = nothing_gathered })
         × (p.awaited_near ≡ record { table = p.awaited; gather = nothing_gathered })
-        × (p.awaited_far ≡ record { table = p.awaited; gather = nothing_gathered }) };
+        × (p.awaited_far ≡ record { table = p.awaited; gather = nothing_gathered })
+        × (p.stopper ≡ new_stopper p.mark) };
 }
 
 impl<D: Disk, B: Coded> Model for Opened<D, B> {
@@ -150,7 +153,7 @@ impl<B: Coded> Parts<B> {
         ensures refusal { IsOkUnless result Refusal.NoMemory }
     {
         let (line, seat) = Line::new(alloc)?;
-        let (mark, kept, watcher) = Mark::new(alloc)?;
+        let (mark, kept, stopper, watcher) = Mark::new(alloc)?;
         let (numbers, maker) = Numbers::new(alloc, from)?;
         let (handoff, sender, receiver) = Handoff::new(alloc)?;
         let (gathering, gathered_near, gathered_far) = Accord::new(alloc)?;
@@ -161,6 +164,7 @@ impl<B: Coded> Parts<B> {
             seat,
             mark,
             kept,
+            stopper,
             watcher,
             numbers,
             maker,
@@ -281,6 +285,7 @@ impl<D: Disk, B: Coded> Opened<D, B> {
             seat,
             mark,
             kept,
+            stopper,
             watcher,
             numbers,
             maker,
@@ -328,6 +333,7 @@ impl<D: Disk, B: Coded> Opened<D, B> {
             ),
             Vault::new(keeper, receiver, kept, awaited_near),
             Gatherer::new(alloc, gathered_far, awaited_far),
+            Stopping::new(stopper),
             shared,
         )
     }

@@ -7,11 +7,13 @@ ghost use Rattle.clients.specs.Known.{newcomer};
 ghost use Rattle.clients.specs.Known.{seen_of, counts_of};
 ghost use Rattle.desks.specs.Told.{told_book};
 ghost use Rattle.store.specs.Closing.{Closes};
+ghost use Rattle.store.specs.Turns.{new_committer};
 
 use crate::checkpointing::Checkpointer;
 use crate::closing::close;
 use crate::committing::Committer;
 use crate::gatherer::Gatherer;
+use crate::stopping::Stopping;
 use crate::vault::Vault;
 use calls::Refusal;
 use catalog::Catalog;
@@ -26,9 +28,9 @@ use txn::Book;
 /// A store of named collections that threads share. The book, which runs transactions in memory,
 /// lies under five locks: each of its four shelves under one, which has every fourth collection,
 /// and its journal under one. The keeper of the disk lies under another, and what is gathered for
-/// an image under a last one, which checkpointers alone take. No device is called under a lock that
-/// clients take, so a client waits for the disk only in `Client::wait`, and where many records wait
-/// for it already.
+/// an image under one that checkpointers alone take. A last one is taken where a committer is made,
+/// and none beside it. No device is called under a lock that clients take, so a client waits for
+/// the disk only in `Client::wait`, and where many records wait for it already.
 ///
 /// Who takes several of them takes them in this order: what is gathered, the keeper, the shelves by
 /// rising number, the journal.
@@ -37,6 +39,7 @@ pub struct Store<D: Disk, J: Naming, B: Coded = Catalog> {
     desk: Lock<Desk<J, B>>,
     vault: Mutex<Vault<D, J>>,
     gatherer: Mutex<Gatherer<J, B>>,
+    stopping: Mutex<Stopping<J>>,
     shared: Shared<J>,
 }
 
@@ -48,12 +51,14 @@ impl<D: Disk + Drop, J: Naming, B: Coded> Drop for Store<D, J, B> {
             desk,
             vault,
             gatherer,
+            stopping,
             shared,
         } = self;
         drop(shelves);
         drop(desk);
         drop(vault);
         drop(gatherer);
+        drop(stopping);
         drop(shared);
     }
 }
@@ -64,6 +69,7 @@ impl<D: Disk, J: Naming, B: Coded> Store<D, J, B> {
         desk: Desk<J, B>,
         vault: Vault<D, J>,
         gatherer: Gatherer<J, B>,
+        stopping: Stopping<J>,
         shared: Shared<J>,
     ) -> Self {
         Self {
@@ -71,6 +77,7 @@ impl<D: Disk, J: Naming, B: Coded> Store<D, J, B> {
             desk: Lock::new(desk),
             vault: Mutex::new(vault),
             gatherer: Mutex::new(gatherer),
+            stopping: Mutex::new(stopping),
             shared,
         }
     }
@@ -102,10 +109,11 @@ impl<D: Disk, J: Naming, B: Coded> Store<D, J, B> {
     /// A committer, whose turns bring what clients did to the disk. A store may have several. It
     /// takes the journal's lock once, and no memory, and is never refused.
     pub fn committer<R: Wait>(&self, rt: &R) -> Committer<'_, D, J, B>
-        ensures { result ≡ new_watcher J.mark }
+        ensures { result ≡ new_committer J.mark }
     {
         let watcher = self.desk.lock(rt).watcher(&self.shared);
-        Committer::new(&self.desk, &self.vault, &self.shared, watcher)
+        let stopper = self.stopping.lock(rt).stopper(&self.shared);
+        Committer::new(&self.desk, &self.vault, &self.shared, watcher, stopper)
     }
 
     /// A checkpointer, whose turns write an image of the store and make it the store. It takes the
@@ -169,9 +177,11 @@ impl<D: Disk, J: Naming, B: Coded> Store<D, J, B> {
             desk,
             vault,
             gatherer,
+            stopping,
             shared,
         } = self;
         drop(gatherer);
+        drop(stopping);
         close(
             &shared,
             shelves,

@@ -1,7 +1,9 @@
 // What lies under the keeper's lock.
 ghost use Rattle.std.specs.Prelude.{◌≡◌, [], IfSome, IfNone, IfErr, Err};
 ghost use Rattle.group_commit.specs.Accords.{nothing_gathered};
+ghost use Rattle.group_commit.specs.Marks.{new_keeper};
 ghost use Rattle.store.specs.Turns.{Brings, TurnTells, CheckTells, brought_to, flipped_to, Fails};
+ghost use Rattle.store.specs.Turns.{FailsWith, stops_by, stops_behind};
 ghost use Rattle.store.specs.Turns.{Reaches, IsTurnRefusal, IsCheckRefusal};
 ghost use Rattle.store.specs.Vaults.{ReceivesAny};
 ghost use Rattle.group_commit.specs.Rising.{raised_to};
@@ -43,7 +45,7 @@ impl<D: Disk, J: Naming> Vault<D, J> {
     /// The vault of a keeper that was just opened.
     pub(crate) fn new(keeper: Keeper<D>, receiver: Receiver, mark: KeeperSeat, near: Near) -> Self
         requires receiver { receiver ≡ record { table = J.handoff; received = []; noted = [] } }
-        requires mark { mark ≡ record { table = J.mark; raised = [] } }
+        requires mark { mark ≡ new_keeper J.mark }
         requires near { near ≡ record { table = J.awaited; gather = nothing_gathered } }
         requires received { J.sound →
             ReceivesAny ⟦<J as Naming>⟧ ⟦<D as Disk>⟧ [] [] [] keeper }
@@ -100,7 +102,7 @@ impl<D: Disk, J: Naming> Vault<D, J> {
         let left = self.keeper.left()?;
         if left >= 1 {
             let laid = self.keeper.image_piece();
-            return Some(piece_told(&shared.mark, watcher, &laid));
+            return Some(piece_told(&shared.mark, &mut self.mark, watcher, &laid));
         }
         let flipped = self.keeper.flip();
         Some(flip_told::<Brand, _>(
@@ -138,6 +140,7 @@ fn reach<W: OneMoment>(mark: &Mark, seat: &mut KeeperSeat, watcher: &mut Watcher
     ensures seat { seat.new ≡ record {
       table = seat.old.table;
       raised = raised_to place W.moment seat.old.raised;
+      stops = seat.old.stops;
     } }
     ensures watcher { Reaches watcher.old place watcher.new }
 {
@@ -145,14 +148,36 @@ fn reach<W: OneMoment>(mark: &Mark, seat: &mut KeeperSeat, watcher: &mut Watcher
     mark.tell(seat, watcher);
 }
 
-/// Where the keeper met a fault, the failed flag is set.
-pub(crate) fn note_failure(mark: &Mark, watcher: &mut Watcher, refusal: Refusal)
-    requires { watcher.old.table ≡ mark.now }
-    ensures { Fails watcher.old refusal watcher.new }
+// Where the keeper met a fault, the failed flag is set, and the watcher told of it.
+fn note_failure(mark: &Mark, seat: &mut KeeperSeat, watcher: &mut Watcher, refusal: Refusal)
+    requires seat { seat.old.table ≡ mark.now }
+    requires watcher { watcher.old.table ≡ mark.now }
+    ensures seat { seat.new ≡ record seat.old { stops = stops_by refusal seat.old.stops } }
+    ensures watcher { Fails watcher.old refusal watcher.new }
 {
     match refusal {
-        Refusal::Fault | Refusal::Failed => mark.fail(watcher),
+        Refusal::Fault | Refusal::Failed => mark.fail(seat, watcher),
         _ => {}
+    }
+}
+
+/// What the keeper answered is told, where that is a fault.
+pub(crate) fn failure_told(
+    mark: &Mark,
+    seat: &mut KeeperSeat,
+    watcher: &mut Watcher,
+    answer: &Result<(), Refusal>,
+)
+    requires seat { seat.old.table ≡ mark.now }
+    requires watcher { watcher.old.table ≡ mark.now }
+    ensures seat { seat.new ≡ record seat.old {
+      stops = stops_behind answer.now seat.old.stops;
+    } }
+    ensures watcher { FailsWith watcher.old answer.now watcher.new }
+{
+    match answer {
+        Ok(()) => {}
+        Err(refusal) => note_failure(mark, seat, watcher, *refusal),
     }
 }
 
@@ -170,6 +195,7 @@ fn turn_told<W: OneMoment, D: Disk>(
     ensures seat { seat.new ≡ record {
       table = seat.old.table;
       raised = brought_to seat.old.raised W.moment turned.now;
+      stops = stops_behind turned.now seat.old.stops;
     } }
     ensures watcher { TurnTells watcher.old turned.now watcher.new }
 {
@@ -177,24 +203,27 @@ fn turn_told<W: OneMoment, D: Disk>(
     match turned {
         Ok(Turn::Kept(place)) => reach::<W>(mark, seat, watcher, *place),
         Ok(_) => {}
-        Err(refusal) => note_failure(mark, watcher, *refusal),
+        Err(refusal) => note_failure(mark, seat, watcher, *refusal),
     }
 }
 
 // What a piece of an image answered.
 fn piece_told(
     mark: &Mark,
+    seat: &mut KeeperSeat,
     watcher: &mut Watcher,
     laid: &Result<bool, Refusal>,
 ) -> Result<Checkpoint, Refusal>
-    requires { watcher.old.table ≡ mark.now }
+    requires seat { seat.old.table ≡ mark.now }
+    requires watcher { watcher.old.table ≡ mark.now }
+    ensures seat { seat.new ≡ record seat.old { stops = stops_behind laid.now seat.old.stops } }
     ensures tells { CheckTells watcher.old result watcher.new }
     ensures refused { IfErr result (λ e. laid.now ≡ Err e) }
 {
     match laid {
         Ok(_) => Ok(Checkpoint::Piece),
         Err(refusal) => {
-            note_failure(mark, watcher, *refusal);
+            note_failure(mark, seat, watcher, *refusal);
             Err(*refusal)
         }
     }
@@ -213,6 +242,7 @@ fn flip_told<W: OneMoment, D: Disk>(
     ensures seat { seat.new ≡ record {
       table = seat.old.table;
       raised = flipped_to seat.old.raised W.moment flipped.now;
+      stops = stops_behind flipped.now seat.old.stops;
     } }
     ensures watcher { CheckTells watcher.old result watcher.new }
     ensures refused { IfErr result (λ e. flipped.now ≡ Err e) }
@@ -224,7 +254,7 @@ fn flip_told<W: OneMoment, D: Disk>(
             Ok(Checkpoint::Flipped(*place))
         }
         Err(refusal) => {
-            note_failure(mark, watcher, *refusal);
+            note_failure(mark, seat, watcher, *refusal);
             Err(*refusal)
         }
     }

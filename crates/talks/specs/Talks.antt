@@ -40,7 +40,7 @@ next_behind told = None
 abbrev pub telling : {A : Type 0} → Told A → Option (Told A) × Option Why
 telling told = (Some told, next_behind told)
 
--- Of a transaction of one line: the talk ends where it could not be taken back.
+-- Of a transaction that a line ends: the talk ends where it could not be taken back.
 abbrev pub told_outcome : {A : Type 0} → Outcome A → Option (Told A) × Option Why
 told_outcome (Outcome.Committed saids place) = (Some (Told.Done saids place), None)
 told_outcome (Outcome.Refused told true) = (Some told, None)
@@ -146,18 +146,27 @@ module _ {S A : Type 0} (s : Ghosts S A) where
       IsTakenBack mid back new
   Commits old saids outcome new = ⊥
 
-  -- A transaction of these calls alone: all of them are made, and committed as one; or it is not
-  -- begun, or is taken back at the first refusal, as far as that can be.
+  -- These calls are made in the open transaction, and all of it is committed as one; or all of it
+  -- is taken back at the first refusal, as far as that can be.
+  abbrev pub Finishes : S → List Request → Outcome A → S → Type 0
+  Finishes old rs outcome new =
+      ((saids : List A) × (mid : S) × RunsCalls old rs saids mid × Commits mid saids outcome new)
+      ⊎ ((told : Told A) × (back : Bool) × (mid : S) × (outcome ≡ Outcome.Refused told back) ×
+      Stops old rs told mid × IsTakenBack mid back new)
+
+  -- A transaction of these calls alone: it is not begun, or it is begun and finished.
   abbrev pub Transacts : S → List Request → Outcome A → S → Type 0
   Transacts old rs outcome new =
       ((said : A) × s.says old Request.Begin said new × s.refuses said ×
       (outcome ≡ Outcome.Refused (Told.Said said) true))
       ⊎ ((begun : A) × (opened : S) × s.says old Request.Begin begun opened ×
-      (s.refuses begun → ⊥) ×
-      (((saids : List A) × (mid : S) × RunsCalls opened rs saids mid ×
-      Commits mid saids outcome new)
-      ⊎ ((told : Told A) × (back : Bool) × (mid : S) × (outcome ≡ Outcome.Refused told back) ×
-      Stops opened rs told mid × IsTakenBack mid back new)))
+      (s.refuses begun → ⊥) × Finishes opened rs outcome new)
+
+  -- What the calls of one line do: where a transaction is open they finish it, and else they are a
+  -- transaction of their own.
+  abbrev pub Does : S → List Request → Outcome A → S → Type 0
+  Does old rs outcome new = (s.is_open old × Finishes old rs outcome new)
+      ⊎ ((s.is_open old → ⊥) × Transacts old rs outcome new)
 
   -- ---- one line with a transaction that waits
 
@@ -189,7 +198,7 @@ module _ {S A : Type 0} (s : Ghosts S A) where
   IsTried old rs (Tried.Transacted outcome) new = Transacts old rs outcome new
   IsTried old rs (Tried.TakenBack back) new = Tries old rs back new
 
-  -- What tries end with: a transaction of one line; or nothing is done as the client has gone; or
+  -- What tries end with: a transaction of its own; or nothing is done as the client has gone; or
   -- one more try cannot be taken back.
   abbrev pub EndsTries : S → List Request → Outcome A → S → Type 0
   EndsTries old rs outcome new = Transacts old rs outcome new
@@ -211,7 +220,7 @@ module _ {S A : Type 0} (s : Ghosts S A) where
       ⊎ ((place : ℕ) × (end : End) × (s.placed said ≡ Some place) × s.ends mid end new ×
       (told ≡ told_kept (Told.Kept place) end)))
 
-  -- A wait for the transaction of one line, where it is committed.
+  -- A wait for the transaction that a line ends, where it is committed.
   abbrev pub KeepsOutcome : S → Outcome A → Option (Told A) → Option Why → S → Type 0
   KeepsOutcome old (Outcome.Committed saids place) told next new =
       (end : End) × s.ends old end new ×
@@ -229,10 +238,10 @@ module _ {S A : Type 0} (s : Ghosts S A) where
   CarriesOut old Wish.Keep told next new =
       (kept : Told A) × KeepsOpen old kept new × ((told, next) ≡ telling kept)
   CarriesOut old (Wish.Do calls) told next new =
-      (outcome : Outcome A) × Transacts old calls.items outcome new ×
+      (outcome : Outcome A) × Does old calls.items outcome new ×
       ((told, next) ≡ told_outcome outcome)
   CarriesOut old (Wish.DoAndKeep calls) told next new =
-      (outcome : Outcome A) × (mid : S) × Transacts old calls.items outcome mid ×
+      (outcome : Outcome A) × (mid : S) × Does old calls.items outcome mid ×
       KeepsOutcome mid outcome told next new
   CarriesOut old (Wish.DoWithin limit calls) told next new =
       (outcome : Outcome A) × TransactsWithin old calls.items outcome new ×

@@ -17,7 +17,7 @@ use crate::hearing::Hearer;
 use crate::patience::transact_within;
 use crate::speaking::{End, Speaker};
 use crate::told::Told;
-use crate::transacting::{Outcome, transact};
+use crate::transacting::{Outcome, run_line};
 use crate::why::Why;
 use calls::Refusal;
 use script::{Request, Wish, wish_of};
@@ -127,9 +127,9 @@ fn carry_out<R: Wait + Clock + AllocGlobal, S: Speaker, H: Hearer<S::Said>>(
         Wish::Ask(request) => (Some(Told::Said(speaker.say(rt, request))), None),
         Wish::Wait => with_next(wait(rt, speaker, hearer)),
         Wish::Keep => with_next(keep(rt, speaker, hearer)),
-        Wish::Do(calls) => told_of(transact(rt, rt.alloc(), speaker, calls.as_slice())),
+        Wish::Do(calls) => told_of(run_line(rt, rt.alloc(), speaker, calls.as_slice())),
         Wish::DoAndKeep(calls) => {
-            let outcome = transact(rt, rt.alloc(), speaker, calls.as_slice());
+            let outcome = run_line(rt, rt.alloc(), speaker, calls.as_slice());
             keep_outcome(rt, speaker, hearer, outcome)
         }
         Wish::DoWithin(limit, calls) => {
@@ -222,7 +222,7 @@ fn kept<S: Drop>(end: End, told: Told<S>) -> Told<S>
     }
 }
 
-// What is told of a transaction of one line.
+// What is told of a transaction that a line ends.
 fn told_of<S>(outcome: Outcome<S>) -> (Option<Told<S>>, Option<Why>)
     ensures { result ≡ told_outcome outcome }
 {
@@ -233,7 +233,7 @@ fn told_of<S>(outcome: Outcome<S>) -> (Option<Told<S>>, Option<Why>)
     }
 }
 
-// What is told of a transaction of one line once it is kept.
+// What is told of a transaction that a line ends, once it is kept.
 fn keep_outcome<R: Wait, S: Speaker, H: Hearer<S::Said>>(
     rt: &R,
     speaker: &mut S,

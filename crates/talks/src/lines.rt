@@ -5,6 +5,7 @@ ghost use Rattle.std.specs.Prelude.{take, get_or, IfSome, IfNone};
 ghost use Rattle.talks.specs.declared.lines.Piece.{Piece};
 ghost use Rattle.talks.specs.Lines.{Begins, Finds, Takes, Ends, IsPiece, IsEmpty, piece_without};
 
+use memchr::memchr;
 use std::io::{self, BufRead, ErrorKind};
 
 /// How many bytes a line has at most, without its line feed.
@@ -139,12 +140,7 @@ fn len_of_front(bytes: &[u8]) -> usize
     ensures front { All (λ b. b ≢ 10) (take result bytes.now) }
     ensures feed { result < length bytes.now → get_or bytes.now result 0 ≡ 10 }
 {
-    for (i, b) in bytes.iter().enumerate() {
-        if *b == b'\n' {
-            return i;
-        }
-    }
-    bytes.len()
+    memchr(b'\n', bytes).unwrap_or(bytes.len())
 }
 
 // The piece that a reader gives which fails so, if it may be read on.

@@ -50,9 +50,9 @@ pub struct Ended {
 /// ever.
 ///
 /// What was told is sent on before the talk waits, for a line, or until a commit is kept; and at
-/// its end, once what was open is taken back. A line of several calls is a transaction of its own:
-/// all of them are committed as one, or none is. The bytes behind the last line feed are passed
-/// over.
+/// its end, once what was open is taken back. A line of several calls finishes the transaction that
+/// is open, and where none is it is one of its own: all of it is committed as one, or none is. The
+/// bytes behind the last line feed are passed over.
 ///
 /// The taking back is refused where too many records wait for the disk, or memory is wanting; it is
 /// tried many times. Where it is refused for good `is_taken_back` is false, and the speaker must

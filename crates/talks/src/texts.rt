@@ -70,6 +70,9 @@ fn write_reply<W: fmt::Write>(f: &mut fmt::Formatter<W>, reply: &Reply) -> fmt::
     f.write_str(text)
 }
 
+// How many bytes are written at once as digits.
+const AT_ONCE: usize = 64;
+
 /// Bytes in pairs of digits, or a dash for none.
 #[derive(Clone, Copy)]
 pub struct Hex<'a>(pub &'a [u8]);
@@ -79,9 +82,23 @@ impl fmt::Display for Hex<'_> {
         if self.0.is_empty() {
             return f.write_str("-");
         }
-        for byte in self.0 {
-            write!(f, "{byte:02x}")?;
+        for part in self.0.chunks(AT_ONCE) {
+            write_digits(f, part)?;
         }
         Ok(())
+    }
+}
+
+// Writes bytes in pairs of digits: so many as are written at once, and no more.
+fn write_digits<W: fmt::Write>(f: &mut fmt::Formatter<W>, bytes: &[u8]) -> fmt::Result {
+    let mut room = [0; 2 * AT_ONCE];
+    let bytes = &bytes[..bytes.len().min(AT_ONCE)];
+    let digits = &mut room[..2 * bytes.len()];
+    let Ok(()) = hex::encode_to_slice(bytes, digits) else {
+        return Err(fmt::Error);
+    };
+    match str::from_utf8(digits) {
+        Ok(text) => f.write_str(text),
+        Err(_) => Err(fmt::Error),
     }
 }

@@ -1,9 +1,10 @@
-// A transaction of calls that stand in one line.
+// Calls that stand in one line, with which a transaction ends.
 ghost use Rattle.std.specs.Prelude.{◌≡◌, [], true, Some, MatchOption};
 ghost use Rattle.calls.specs.declared.refusal.Refusal.{Refusal};
 ghost use Rattle.talks.specs.declared.told.Told.{Told};
 ghost use Rattle.talks.specs.declared.transacting.Outcome.{Outcome};
-ghost use Rattle.talks.specs.Talks.{Transacts, Commits, Stops, RunsCalls, IsTakenBack, IsUndone};
+ghost use Rattle.talks.specs.Talks.{Does, Transacts, Finishes, Commits, Stops, RunsCalls};
+ghost use Rattle.talks.specs.Talks.{IsTakenBack, IsUndone};
 
 use crate::speaking::Speaker;
 use crate::told::Told;
@@ -25,6 +26,23 @@ pub enum Outcome<S> {
     Refused(Told<S>, bool),
 }
 
+// Runs calls in the open transaction, where one is, and else in one of their own, and commits it.
+// What is refused takes all of it back, and so what the client did in it before.
+pub fn run_line<R: Wait, S: Speaker>(
+    rt: &R,
+    alloc: Global,
+    speaker: &mut S,
+    calls: &[Request],
+) -> Outcome<S::Said>
+    ensures { Does ⟦<S as Speaker>⟧ speaker.old calls.now result speaker.new }
+{
+    if speaker.is_open() {
+        finish(rt, alloc, speaker, calls)
+    } else {
+        transact(rt, alloc, speaker, calls)
+    }
+}
+
 // Runs calls in a transaction of their own, and commits it. What is refused takes all of it back.
 pub fn transact<R: Wait, S: Speaker>(
     rt: &R,
@@ -39,6 +57,18 @@ pub fn transact<R: Wait, S: Speaker>(
         return Outcome::Refused(Told::Said(begun), true);
     }
     drop(begun);
+    finish(rt, alloc, speaker, calls)
+}
+
+// Runs calls in the open transaction, and commits it. What is refused takes all of it back.
+fn finish<R: Wait, S: Speaker>(
+    rt: &R,
+    alloc: Global,
+    speaker: &mut S,
+    calls: &[Request],
+) -> Outcome<S::Said>
+    ensures { Finishes ⟦<S as Speaker>⟧ speaker.old calls.now result speaker.new }
+{
     let mut saids = Vec::new(alloc);
     match run_calls(rt, speaker, calls, &mut saids) {
         None => commit(rt, speaker, saids),

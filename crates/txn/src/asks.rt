@@ -22,7 +22,7 @@ use calls::{Call, Need, Refusal, Reply, When};
 use catalog::Parts;
 use records::{Coded, LaterRecord, Record, call_len, encoded_len, fits_call, fits_reply};
 use shelf::{Looked, Shelf};
-use undo_log::{Entry, Later, Logged};
+use undo_log::{Entry, Handle, Later, Logged};
 
 impl<B: Parts + Coded> Journal<B> {
     /// What the transaction asks of the collection of a number, under the need that the call has
@@ -33,13 +33,13 @@ impl<B: Parts + Coded> Journal<B> {
     /// to its own transaction.
     ///
     /// NoSuchTxn, Falling, what the look was refused with, Worn, TooManyCalls where the transaction
-    /// asked for 1,024, Backlog, NoMemory where the look starved, AlreadyGoing where the transaction
-    /// left to its commit already what this call would leave, Busy as the look says, NoMemory. Each
-    /// leaves journal and shelf as before.
+    /// asked for 1,024, Backlog, NoMemory where the look starved, AlreadyGoing where the
+    /// transaction left to its commit already what this call would leave, Busy as the look says,
+    /// NoMemory. Each leaves journal and shelf as before.
     pub fn ask(
         &mut self,
         shelf: &mut Shelf<B::Shelf>,
-        number: u64,
+        handle: Handle,
         at: u8,
         call: &Call,
         when: When,
@@ -47,50 +47,53 @@ impl<B: Parts + Coded> Journal<B> {
     ) -> Result<Reply, Refusal>
         requires kept { IsOfBook B.meaning B.making B.collections B.whole B.fits (which_of at)
             self.old shelf.old }
-        requires looked { IsLooked B.Shelf.meaning when self.old.accounts.format shelf.old number at
+        requires looked { IsLooked B.Shelf.meaning when self.old.accounts.format shelf.old
+            handle.number at
             call.now looked }
         ensures step { LeadsOn B.meaning B.making B.collections B.whole B.fits
             (Serves B.meaning B.making B.collections
-            (Action.Ask number (Target.Number at) call.now when) result) (which_of at) self.old
+            (Action.Ask handle.number (Target.Number at) call.now when) result) (which_of at)
+            self.old
             shelf.old self.new shelf.new }
         ensures deferred { IfOk result (λ reply. when ≡ When.AtCommit → reply ≡ Reply.Done) }
     {
-        self.check_running(number)?;
+        self.check_running(handle)?;
         match looked {
             Looked::Refused(refusal) => Err(refusal),
             Looked::Starved => {
-                self.check_room(number)?;
+                self.check_room(handle)?;
                 Err(Refusal::NoMemory)
             }
             Looked::Answered { reply, need, clear } => {
-                self.check_room(number)?;
-                if self.goes_twice(number, at, call, when, &reply) {
+                self.check_room(handle)?;
+                if self.goes_twice(handle, at, call, when, &reply) {
                     return Err(Refusal::AlreadyGoing);
                 }
                 clear?;
-                self.take(shelf, number, at, call, when, &reply, need)?;
+                self.take(shelf, handle, at, call, when, &reply, need)?;
                 Ok(reply)
             }
         }
     }
 
     // Whether the call, answered so, would leave to the commit what is going already.
-    fn goes_twice(&self, number: u64, at: u8, call: &Call, when: When, reply: &Reply) -> bool
-        ensures { IsTrue result ↔ (when ≡ When.Now) × GoesTwice self.now.accounts.entries number
+    fn goes_twice(&self, handle: Handle, at: u8, call: &Call, when: When, reply: &Reply) -> bool
+        ensures { IsTrue result ↔ (when ≡ When.Now) ×
+            GoesTwice self.now.accounts.entries handle.number
             (record { at = at; call = call.now; reply = reply.now }) }
     {
         match when {
-            When::Now => self.accounts.live().goes_twice(number, at, call, reply),
+            When::Now => self.accounts.live().goes_twice(handle, at, call, reply),
             When::AtCommit => false,
         }
     }
 
-    // Takes the call that can get the reply: makes it, or defers it, under its record unless it only
-    // reads.
+    // Takes the call that can get the reply: makes it, or defers it, under its record unless it
+    // only reads.
     fn take(
         &mut self,
         shelf: &mut Shelf<B::Shelf>,
-        number: u64,
+        handle: Handle,
         at: u8,
         call: &Call,
         when: When,
@@ -99,13 +102,15 @@ impl<B: Parts + Coded> Journal<B> {
     ) -> Result<(), Refusal>
         requires kept { IsOfBook B.meaning B.making B.collections B.whole B.fits (which_of at)
             self.old shelf.old }
-        requires open { IsOpen (Unit {0}) (standing_of self.old) number }
-        requires can { CanGet B.Shelf.meaning when (state_on self.old.accounts shelf.old) number
+        requires open { IsOpen (Unit {0}) (standing_of self.old) handle.number }
+        requires can { CanGet B.Shelf.meaning when (state_on self.old.accounts shelf.old)
+            handle.number
             (record { at = at; call = call.now; reply = reply.now }) }
         requires needed { need ≡ need_of call.now reply.now }
         ensures ok { OnOk result (LeadsOn B.meaning B.making B.collections B.whole B.fits
             (Serves B.meaning B.making B.collections
-            (Action.Ask number (Target.Number at) call.now when) (Ok reply.now)) (which_of at)
+            (Action.Ask handle.number (Target.Number at) call.now when) (Ok reply.now))
+            (which_of at)
             self.old shelf.old self.new shelf.new) }
         ensures same { OnErr result ((self.new ≡ self.old) × (shelf.new ≡ shelf.old)) }
         ensures refusal { IsOkUnless result Refusal.NoMemory }
@@ -113,12 +118,12 @@ impl<B: Parts + Coded> Journal<B> {
         match when {
             When::Now => {
                 if call.reads(reply) {
-                    self.note_read(shelf, number, at, call, reply, need)
+                    self.note_read(shelf, handle, at, call, reply, need)
                 } else {
-                    self.note_call(shelf, number, at, call, reply, need)
+                    self.note_call(shelf, handle, at, call, reply, need)
                 }
             }
-            When::AtCommit => self.defer(shelf, number, at, call, need),
+            When::AtCommit => self.defer(shelf, handle, at, call, need),
         }
     }
 
@@ -126,7 +131,7 @@ impl<B: Parts + Coded> Journal<B> {
     fn note_read(
         &mut self,
         shelf: &mut Shelf<B::Shelf>,
-        number: u64,
+        handle: Handle,
         at: u8,
         call: &Call,
         reply: &Reply,
@@ -134,27 +139,28 @@ impl<B: Parts + Coded> Journal<B> {
     ) -> Result<(), Refusal>
         requires kept { IsOfBook B.meaning B.making B.collections B.whole B.fits (which_of at)
             self.old shelf.old }
-        requires open { IsOpen (Unit {0}) (standing_of self.old) number }
-        requires can { CanCall B.Shelf.meaning (state_on self.old.accounts shelf.old) number
+        requires open { IsOpen (Unit {0}) (standing_of self.old) handle.number }
+        requires can { CanCall B.Shelf.meaning (state_on self.old.accounts shelf.old) handle.number
             (record { at = at; call = call.now; reply = reply.now }) }
         requires needed { need ≡ need_of call.now reply.now }
         requires only_reads { reads call.now reply.now ≡ true }
         ensures ok { OnOk result (LeadsOn B.meaning B.making B.collections B.whole B.fits
             (Serves B.meaning B.making B.collections
-            (Action.Ask number (Target.Number at) call.now When.Now) (Ok reply.now)) (which_of at)
+            (Action.Ask handle.number (Target.Number at) call.now When.Now) (Ok reply.now))
+            (which_of at)
             self.old shelf.old self.new shelf.new) }
         ensures same { OnErr result ((self.new ≡ self.old) × (shelf.new ≡ shelf.old)) }
         ensures refusal { IsOkUnless result Refusal.NoMemory }
     {
         let asked = logged(at, call, reply)?;
-        self.accounts.read(shelf, number, asked, need)
+        self.accounts.read(shelf, handle, asked, need)
     }
 
     // Makes the call, which does not only read, under its record, from its parts.
     fn note_call(
         &mut self,
         shelf: &mut Shelf<B::Shelf>,
-        number: u64,
+        handle: Handle,
         at: u8,
         call: &Call,
         reply: &Reply,
@@ -162,14 +168,15 @@ impl<B: Parts + Coded> Journal<B> {
     ) -> Result<(), Refusal>
         requires kept { IsOfBook B.meaning B.making B.collections B.whole B.fits (which_of at)
             self.old shelf.old }
-        requires open { IsOpen (Unit {0}) (standing_of self.old) number }
-        requires can { CanCall B.Shelf.meaning (state_on self.old.accounts shelf.old) number
+        requires open { IsOpen (Unit {0}) (standing_of self.old) handle.number }
+        requires can { CanCall B.Shelf.meaning (state_on self.old.accounts shelf.old) handle.number
             (record { at = at; call = call.now; reply = reply.now }) }
         requires needed { need ≡ need_of call.now reply.now }
         requires written { reads call.now reply.now ≡ false }
         ensures ok { OnOk result (LeadsOn B.meaning B.making B.collections B.whole B.fits
             (Serves B.meaning B.making B.collections
-            (Action.Ask number (Target.Number at) call.now When.Now) (Ok reply.now)) (which_of at)
+            (Action.Ask handle.number (Target.Number at) call.now When.Now) (Ok reply.now))
+            (which_of at)
             self.old shelf.old self.new shelf.new) }
         ensures same { OnErr result ((self.new ≡ self.old) × (shelf.new ≡ shelf.old)) }
         ensures refusal { IsOkUnless result Refusal.NoMemory }
@@ -181,9 +188,9 @@ impl<B: Parts + Coded> Journal<B> {
         let asked = logged(at, call, reply)?;
         let effect = self.gathering.effect_of_call(&asked, position)?;
         self.accounts
-            .take(shelf, number, Entry::Asked(asked), need)?;
+            .take(shelf, handle, Entry::Asked(asked), need)?;
         self.gathering.note(effect);
-        self.pending.push_call(number, at, call, reply);
+        self.pending.push_call(handle.number, at, call, reply);
         Ok(())
     }
 
@@ -191,20 +198,21 @@ impl<B: Parts + Coded> Journal<B> {
     fn defer(
         &mut self,
         shelf: &mut Shelf<B::Shelf>,
-        number: u64,
+        handle: Handle,
         at: u8,
         call: &Call,
         need: Need,
     ) -> Result<(), Refusal>
         requires kept { IsOfBook B.meaning B.making B.collections B.whole B.fits (which_of at)
             self.old shelf.old }
-        requires open { IsOpen (Unit {0}) (standing_of self.old) number }
-        requires can { CanPutOff B.Shelf.meaning (state_on self.old.accounts shelf.old) number at
+        requires open { IsOpen (Unit {0}) (standing_of self.old) handle.number }
+        requires can { CanPutOff B.Shelf.meaning (state_on self.old.accounts shelf.old)
+            handle.number at
             call.now }
         requires needed { need ≡ need_of call.now Reply.Done }
         ensures ok { OnOk result (LeadsOn B.meaning B.making B.collections B.whole B.fits
             (Serves B.meaning B.making B.collections
-            (Action.Ask number (Target.Number at) call.now When.AtCommit) (Ok Reply.Done))
+            (Action.Ask handle.number (Target.Number at) call.now When.AtCommit) (Ok Reply.Done))
             (which_of at) self.old shelf.old self.new shelf.new) }
         ensures same { OnErr result ((self.new ≡ self.old) × (shelf.new ≡ shelf.old)) }
         ensures refusal { IsOkUnless result Refusal.NoMemory }
@@ -213,23 +221,23 @@ impl<B: Parts + Coded> Journal<B> {
             at,
             call: call.copy()?,
         };
-        let entry = later_record(number, at, call)?;
+        let entry = later_record(handle.number, at, call)?;
         self.pending.reserve(encoded_len(&entry))?;
-        self.accounts.take(shelf, number, Entry::PutOff(put), need)?;
+        self.accounts.take(shelf, handle, Entry::PutOff(put), need)?;
         self.pending.push(entry);
         Ok(())
     }
 
     // Whether the running transaction has room for what it can ask.
-    fn check_room(&self, number: u64) -> Result<(), Refusal>
-        requires { IsRunning (standing_of self.now).state number }
-        ensures ok { OnOk result (IsOpen (Unit {0}) (standing_of self.now) number) }
-        ensures err { IfErr result (OpenRefused (Unit {0}) (standing_of self.now) number) }
+    fn check_room(&self, handle: Handle) -> Result<(), Refusal>
+        requires { IsRunning (standing_of self.now).state handle.number }
+        ensures ok { OnOk result (IsOpen (Unit {0}) (standing_of self.now) handle.number) }
+        ensures err { IfErr result (OpenRefused (Unit {0}) (standing_of self.now) handle.number) }
     {
         if self.accounts.wear() >= NUMBER_END {
             return Err(Refusal::Worn);
         }
-        if self.accounts.live().count(number) >= MAX_CALLS {
+        if self.accounts.live().count(handle) >= MAX_CALLS {
             return Err(Refusal::TooManyCalls);
         }
         self.check_backlog()

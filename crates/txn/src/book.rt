@@ -37,7 +37,7 @@ use records::Coded;
 use shelf::Shelf;
 use std::alloc::Global;
 use std::marker::Model;
-use undo_log::Stamped;
+use undo_log::{Handle, Stamped};
 
 /// The collections with the live transactions on them, and the records of the steps that were not
 /// handed over yet (transactional boosting: Herlihy and Koskinen, PPoPP 2008).
@@ -210,14 +210,14 @@ impl<B: Parts + Coded> Book<B> {
 
     /// What the transaction asks of a collection, under the need that the call has with its reply:
     /// at once, or deferred to its commit, where it is Done. A call that only reads is not
-    /// journalled: no record waits for it, and it does not wear. Its need is held to the end as that
-    /// of another. Until the commit a deferred call shows in no reply, not even to its own
+    /// journalled: no record waits for it, and it does not wear. Its need is held to the end as
+    /// that of another. Until the commit a deferred call shows in no reply, not even to its own
     /// transaction.
     ///
-    /// NoSuchTxn, Falling, NoSuchCollection, WrongKind, BadArg for a call that no client can ask so,
-    /// TooLong, Worn, TooManyCalls where the transaction asked for 1,024, Backlog, NoMemory in the
-    /// look-up for a value, AlreadyGoing where the transaction left to its commit already what this
-    /// call would leave, Busy with the least other transaction that holds a need in the way,
+    /// NoSuchTxn, Falling, NoSuchCollection, WrongKind, BadArg for a call that no client can ask
+    /// so, TooLong, Worn, TooManyCalls where the transaction asked for 1,024, Backlog, NoMemory in
+    /// the look-up for a value, AlreadyGoing where the transaction left to its commit already what
+    /// this call would leave, Busy with the least other transaction that holds a need in the way,
     /// NoMemory.
     pub fn ask(&mut self, number: u64, at: u8, call: &Call, when: When) -> Result<Reply, Refusal>
         ensures answer { Takes B.meaning B.making self.old
@@ -231,8 +231,9 @@ impl<B: Parts + Coded> Book<B> {
     {
         let Self { shelves, journal } = self;
         let shelf = shelves.of_mut(at);
+        let slot = journal.slot(number);
         let looked = shelf.look(journal.format(), number, at, call, when);
-        journal.ask(shelf, number, at, call, when, looked)
+        journal.ask(shelf, Handle { number, slot }, at, call, when, looked)
     }
 
     /// Commits the transaction: what it put off, and what its calls left, runs in the order asked,
@@ -250,8 +251,10 @@ impl<B: Parts + Coded> Book<B> {
             self.new) }
     {
         let Self { shelves, journal } = self;
-        let place = journal.prepare_commit(number)?;
-        let ran = settle_all(shelves, number, journal.entries_of(number));
+        let slot = journal.slot(number);
+        let handle = Handle { number, slot };
+        let place = journal.prepare_commit(handle)?;
+        let ran = settle_all(shelves, number, journal.entries_of(handle));
         journal.finish(number, ran);
         Ok(place)
     }
@@ -270,10 +273,12 @@ impl<B: Parts + Coded> Book<B> {
             self.new) }
     {
         let Self { shelves, journal } = self;
-        let Some(at) = journal.newest(number) else {
-            return journal.back_none(number);
+        let slot = journal.slot(number);
+        let handle = Handle { number, slot };
+        let Some(at) = journal.newest(handle) else {
+            return journal.back_none(handle);
         };
-        journal.back(shelves.of_mut(at), number, at)
+        journal.back(shelves.of_mut(at), handle, at)
     }
 
     /// Ends a transaction whose calls are all undone: its needs go, and what it put off is never
@@ -289,7 +294,8 @@ impl<B: Parts + Coded> Book<B> {
             self.new) }
     {
         let Self { shelves, journal } = self;
-        journal.prepare_end(number)?;
+        let slot = journal.slot(number);
+        journal.prepare_end(Handle { number, slot })?;
         give_up_all(shelves, number);
         journal.finish(number, 0);
         Ok(())

@@ -24,16 +24,16 @@ use calls::Refusal;
 use catalog::{Four, Parts};
 use records::{Coded, Record};
 use shelf::Shelf;
-use undo_log::Stamped;
+use undo_log::{Handle, Stamped};
 
 impl<B: Parts + Coded> Journal<B> {
     /// The number of the collection of the transaction's newest call that is not undone, if there
     /// is one. This is no step.
-    pub fn newest(&self, number: u64) -> Option<u8>
-        ensures some { IfSome result (HasNewestAt number self.now.accounts.entries) }
-        ensures none { IfNone result (HasNoCall number self.now.accounts.entries) }
+    pub fn newest(&self, handle: Handle) -> Option<u8>
+        ensures some { IfSome result (HasNewestAt handle.number self.now.accounts.entries) }
+        ensures none { IfNone result (HasNoCall handle.number self.now.accounts.entries) }
     {
-        match self.accounts.live().newest(number) {
+        match self.accounts.live().newest(handle) {
             Some(newest) => Some(newest.at),
             None => None,
         }
@@ -47,23 +47,24 @@ impl<B: Parts + Coded> Journal<B> {
     pub fn back(
         &mut self,
         shelf: &mut Shelf<B::Shelf>,
-        number: u64,
+        handle: Handle,
         at: u8,
     ) -> Result<bool, Refusal>
         requires kept { IsOfBook B.meaning B.making B.collections B.whole B.fits (which_of at)
             self.old shelf.old }
-        requires newest { HasNewestAt number self.old.accounts.entries at }
+        requires newest { HasNewestAt handle.number self.old.accounts.entries at }
         ensures { LeadsOn B.meaning B.making B.collections B.whole B.fits
-            (Serves B.meaning B.making B.collections (Action.Back number) result) (which_of at)
+            (Serves B.meaning B.making B.collections (Action.Back handle.number) result)
+            (which_of at)
             self.old shelf.old self.new shelf.new }
     {
-        self.check_live(number)?;
+        self.check_live(handle)?;
         self.check_backlog()?;
-        if self.newest_reads(number) {
-            self.accounts.unread(number);
+        if self.newest_reads(handle) {
+            self.accounts.unread(handle);
             return Ok(true);
         }
-        self.write_back(shelf, number, at)?;
+        self.write_back(shelf, handle, at)?;
         Ok(true)
     }
 
@@ -71,16 +72,16 @@ impl<B: Parts + Coded> Journal<B> {
     /// then on.
     ///
     /// NoSuchTxn, Backlog. Each leaves the journal as before.
-    pub fn back_none(&mut self, number: u64) -> Result<bool, Refusal>
+    pub fn back_none(&mut self, handle: Handle) -> Result<bool, Refusal>
         requires kept { IsJournal B.meaning B.making B.collections B.whole B.fits self.old }
-        requires none { HasNoCall number self.old.accounts.entries }
+        requires none { HasNoCall handle.number self.old.accounts.entries }
         ensures { LeadsBeside B.meaning B.making B.collections B.whole B.fits
-            (Serves B.meaning B.making B.collections (Action.Back number) result) self.old
+            (Serves B.meaning B.making B.collections (Action.Back handle.number) result) self.old
             self.new }
     {
-        self.check_live(number)?;
+        self.check_live(handle)?;
         self.check_backlog()?;
-        self.accounts.fall(number);
+        self.accounts.fall(handle);
         Ok(false)
     }
 
@@ -90,27 +91,27 @@ impl<B: Parts + Coded> Journal<B> {
     /// finished.
     ///
     /// NoSuchTxn, Falling, Backlog, NoMemory. Each leaves the journal as before.
-    pub fn prepare_commit(&mut self, number: u64) -> Result<u64, Refusal>
+    pub fn prepare_commit(&mut self, handle: Handle) -> Result<u64, Refusal>
         requires kept { IsJournal B.meaning B.making B.collections B.whole B.fits self.old }
-        ensures running { OnOk result (IsRunning (standing_of self.old).state number) }
-        ensures written { OnOk result (Writes self.old (Record.Commit number) self.new) }
+        ensures running { OnOk result (IsRunning (standing_of self.old).state handle.number) }
+        ensures written { OnOk result (Writes self.old (Record.Commit handle.number) self.new) }
         ensures place { IfOk result (λ place. place ≡ self.new.places) }
         ensures accounts { OnOk result (self.new.accounts ≡ self.old.accounts) }
         ensures names { OnOk result (self.new.names ≡ self.old.names) }
         ensures noted { OnOk result (self.new.gathering ≡ noted self.old.gathering
             (map (effect_at (journal_position self.old + 1))
-            (laters_of (own number self.old.accounts.entries)))) }
+            (laters_of (own handle.number self.old.accounts.entries)))) }
         ensures same { OnErr result (self.new ≡ self.old) }
-        ensures err { IfErr result (CommitRefused (standing_of self.old) number) }
+        ensures err { IfErr result (CommitRefused (standing_of self.old) handle.number) }
     {
-        self.check_running(number)?;
+        self.check_running(handle)?;
         self.check_backlog()?;
         let position = self.next_position();
         self.pending.reserve(MARK_LEN)?;
-        let entries = self.accounts.live().entries_of(number);
+        let entries = self.accounts.live().entries_of(handle);
         let effects = self.gathering.effects_of_commit(entries, position)?;
         self.gathering.note_all(effects);
-        self.pending.push(Record::Commit(number));
+        self.pending.push(Record::Commit(handle.number));
         self.places += 1;
         Ok(self.places)
     }
@@ -120,41 +121,41 @@ impl<B: Parts + Coded> Journal<B> {
     ///
     /// NoSuchTxn, Unfinished where a call is not undone, Backlog, NoMemory. Each leaves the journal
     /// as before.
-    pub fn prepare_end(&mut self, number: u64) -> Result<(), Refusal>
+    pub fn prepare_end(&mut self, handle: Handle) -> Result<(), Refusal>
         requires kept { IsJournal B.meaning B.making B.collections B.whole B.fits self.old }
-        ensures live { OnOk result (Lives self.old.accounts.live number) }
-        ensures undone { OnOk result (HasNoCall number self.old.accounts.entries) }
-        ensures written { OnOk result (Writes self.old (Record.Ended number) self.new) }
+        ensures live { OnOk result (Lives self.old.accounts.live handle.number) }
+        ensures undone { OnOk result (HasNoCall handle.number self.old.accounts.entries) }
+        ensures written { OnOk result (Writes self.old (Record.Ended handle.number) self.new) }
         ensures accounts { OnOk result (self.new.accounts ≡ self.old.accounts) }
         ensures names { OnOk result (self.new.names ≡ self.old.names) }
         ensures noted { OnOk result (self.new.gathering ≡ self.old.gathering) }
         ensures same { OnErr result (self.new ≡ self.old) }
-        ensures err { IfErr result (EndedRefused (standing_of self.old) number) }
+        ensures err { IfErr result (EndedRefused (standing_of self.old) handle.number) }
     {
-        self.check_live(number)?;
-        if self.newest(number).is_some() {
+        self.check_live(handle)?;
+        if self.newest(handle).is_some() {
             return Err(Refusal::Unfinished);
         }
         self.check_backlog()?;
         self.pending.reserve(MARK_LEN)?;
-        self.pending.push(Record::Ended(number));
+        self.pending.push(Record::Ended(handle.number));
         Ok(())
     }
 
     /// What the transaction asked for and did not undo, in the order asked. This is no step.
-    pub fn entries_of(&self, number: u64) -> &[Stamped]
-        ensures { map stamped_entry result.now ≡ own number self.now.accounts.entries }
+    pub fn entries_of(&self, handle: Handle) -> &[Stamped]
+        ensures { map stamped_entry result.now ≡ own handle.number self.now.accounts.entries }
     {
-        self.accounts.live().entries_of(number)
+        self.accounts.live().entries_of(handle)
     }
 
     /// Of each shelf, whether the transaction asked for something there and did not undo it. It
     /// looks at what the transaction asked for, and takes no memory. This is no step.
-    pub fn shelves_of(&self, number: u64) -> Four<bool>
+    pub fn shelves_of(&self, handle: Handle) -> Four<bool>
         ensures { (w : Which) → (pick result w ≡ false) ↔
-            IsUntouched w number self.now.accounts.entries }
+            IsUntouched w handle.number self.now.accounts.entries }
     {
-        let entries = self.entries_of(number);
+        let entries = self.entries_of(handle);
         Four {
             first: has_entry(entries, 0),
             second: has_entry(entries, 1),
@@ -178,40 +179,41 @@ impl<B: Parts + Coded> Journal<B> {
     fn write_back(
         &mut self,
         shelf: &mut Shelf<B::Shelf>,
-        number: u64,
+        handle: Handle,
         at: u8,
     ) -> Result<(), Refusal>
         requires kept { IsOfBook B.meaning B.making B.collections B.whole B.fits (which_of at)
             self.old shelf.old }
-        requires live { Lives self.old.accounts.live number }
-        requires newest { HasNewestAt number self.old.accounts.entries at }
-        requires written { HasNewestRead number self.old.accounts.entries → ⊥ }
+        requires live { Lives self.old.accounts.live handle.number }
+        requires newest { HasNewestAt handle.number self.old.accounts.entries at }
+        requires written { HasNewestRead handle.number self.old.accounts.entries → ⊥ }
         requires room { length self.old.pending < max_pending }
         ensures ok { OnOk result (LeadsOn B.meaning B.making B.collections B.whole B.fits
-            (Serves B.meaning B.making B.collections (Action.Back number) (Ok true)) (which_of at)
+            (Serves B.meaning B.making B.collections (Action.Back handle.number) (Ok true))
+            (which_of at)
             self.old shelf.old self.new shelf.new) }
         ensures same { OnErr result ((self.new ≡ self.old) × (shelf.new ≡ shelf.old)) }
         ensures refusal { IsOkUnless result Refusal.NoMemory }
     {
         let position = self.next_position();
         self.pending.reserve(MARK_LEN)?;
-        let Some(newest) = self.accounts.live().newest(number) else {
+        let Some(newest) = self.accounts.live().newest(handle) else {
             unreachable!();
         };
         let effect = self
             .gathering
             .effect_of_undoing(shelf.collections(), newest, position)?;
-        self.accounts.back(shelf, number)?;
+        self.accounts.back(shelf, handle)?;
         self.gathering.note(effect);
-        self.pending.push(Record::Back(number));
+        self.pending.push(Record::Back(handle.number));
         Ok(())
     }
 
     // Whether the newest call of the transaction is there and only reads.
-    fn newest_reads(&self, number: u64) -> bool
-        ensures { IsTrue result ↔ HasNewestRead number self.now.accounts.entries }
+    fn newest_reads(&self, handle: Handle) -> bool
+        ensures { IsTrue result ↔ HasNewestRead handle.number self.now.accounts.entries }
     {
-        match self.accounts.live().newest(number) {
+        match self.accounts.live().newest(handle) {
             Some(newest) => newest.call.reads(&newest.reply),
             None => false,
         }

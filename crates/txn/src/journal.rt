@@ -28,6 +28,7 @@ use machine::Accounts;
 use records::{Coded, Record};
 use std::alloc::Global;
 use std::marker::Model;
+use undo_log::Handle;
 
 // The bytes of a record of a transaction's number alone.
 pub(crate) const MARK_LEN: usize = 9;
@@ -181,6 +182,12 @@ impl<B: Parts + Coded> Journal<B> {
         count_journalled(live) + live.count_live() as u64
     }
 
+    /// The slot of the number's transaction, for its handle; any where it is not live. One search;
+    /// this is no step.
+    pub fn slot(&self, number: u64) -> usize {
+        self.accounts.live().slot(number)
+    }
+
     /// The number of the collection of the name, as `Named::find` answers. This is no step.
     pub fn find(&self, name: &str) -> Result<u8, Refusal>
         ensures ok { IfOk result (λ at. IsName name.now ×
@@ -266,12 +273,12 @@ impl<B: Parts + Coded> Journal<B> {
     }
 
     // Whether the transaction is live.
-    pub(crate) fn check_live(&self, number: u64) -> Result<(), Refusal>
-        ensures ok { OnOk result (Lives self.now.accounts.live number) }
+    pub(crate) fn check_live(&self, handle: Handle) -> Result<(), Refusal>
+        ensures ok { OnOk result (Lives self.now.accounts.live handle.number) }
         ensures err { IfErr result (λ e. (e ≡ Refusal.NoSuchTxn) ×
-            (Lives self.now.accounts.live number → ⊥)) }
+            (Lives self.now.accounts.live handle.number → ⊥)) }
     {
-        if self.accounts.live().is_live(number) {
+        if self.accounts.live().is_live(handle) {
             Ok(())
         } else {
             Err(Refusal::NoSuchTxn)
@@ -279,12 +286,12 @@ impl<B: Parts + Coded> Journal<B> {
     }
 
     // Whether the transaction is live, and nothing of it was undone.
-    pub(crate) fn check_running(&self, number: u64) -> Result<(), Refusal>
-        ensures ok { OnOk result (IsRunning (standing_of self.now).state number) }
-        ensures err { IfErr result (RunRefused (standing_of self.now) number) }
+    pub(crate) fn check_running(&self, handle: Handle) -> Result<(), Refusal>
+        ensures ok { OnOk result (IsRunning (standing_of self.now).state handle.number) }
+        ensures err { IfErr result (RunRefused (standing_of self.now) handle.number) }
     {
-        self.check_live(number)?;
-        if self.accounts.live().is_falling(number) {
+        self.check_live(handle)?;
+        if self.accounts.live().is_falling(handle) {
             return Err(Refusal::Falling);
         }
         Ok(())
@@ -299,7 +306,7 @@ impl<B: Parts + Coded> Journal<B> {
             return Err(Refusal::BadArg);
         }
         let live = self.accounts.live();
-        if live.is_live(number) {
+        if live.contains(number) {
             return Err(Refusal::AlreadyLive);
         }
         if live.count_live() >= MAX_LIVE {

@@ -6,7 +6,7 @@ ghost use Rattle.undo_log.specs.Logs.{Lives};
 ghost use Rattle.record_format.specs.Records.{IsNumber};
 ghost use Rattle.txn.specs.Undoings.{is_journalled_call, journalled_calls};
 
-use undo_log::{Entry, Live, Stamped};
+use undo_log::{Entry, Handle, Live, Stamped};
 
 // How many calls of the live transactions do not only read: each takes a record to be undone. It
 // looks at what each transaction asked for, and takes no memory.
@@ -19,7 +19,8 @@ pub(crate) fn count_journalled(live: &Live) -> u64
     let mut count = 0;
     let mut last = 0;
     while let Some(number) = live.next_live(last) {
-        count += count_calls(live.entries_of(number)) as u64;
+        let slot = live.slot(number);
+        count += count_calls(live.entries_of(Handle { number, slot })) as u64;
         last = number;
     }
     count

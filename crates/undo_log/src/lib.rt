@@ -6,5 +6,5 @@ mod left_calls;
 mod live;
 mod logged;
 
-pub use live::Live;
+pub use live::{Handle, Live};
 pub use logged::{Entry, Later, Logged, Owned, Stamped};

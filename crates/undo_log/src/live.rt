@@ -16,7 +16,7 @@ ghost use Rattle.undo_log.specs.Stamps.{marks, mark_of};
 ghost use Rattle.undo_log.specs.Index.{AreRising, IsIndex, IsGapFor};
 ghost use Rattle.undo_log.specs.LeftCalls.{GoesTwice};
 ghost use Rattle.undo_log.specs.declared.live.Transaction.{Transaction};
-ghost use Rattle.undo_log.specs.declared.live.Seat.{Seat};
+ghost use Rattle.undo_log.specs.declared.live.Handle.{Handle};
 
 use crate::left_calls::is_going;
 use crate::{Entry, Logged, Owned, Stamped};
@@ -33,11 +33,14 @@ struct Transaction {
     entries: Vec<Stamped>,
 }
 
-/// A live number, and the slot of its transaction.
-#[derive(Drop)]
-struct Seat {
-    number: u64,
-    slot: usize,
+/// A transaction's number, and the slot in which it was last seen. Where the transaction is live
+/// and there still, it is found without a search.
+#[derive(Clone, Copy)]
+pub struct Handle {
+    /// The transaction's number.
+    pub number: u64,
+    /// The slot, as `Live::slot` told it.
+    pub slot: usize,
 }
 
 /// The live transactions in their slots, and the slot of each number in an index that rises by
@@ -45,7 +48,7 @@ struct Seat {
 #[derive(Drop)]
 struct Table {
     slots: Slab<Transaction>,
-    index: Vec<Seat>,
+    index: Vec<Handle>,
 }
 
 /// The live transactions. Contracts see which numbers are live and which of them are falling; what
@@ -53,7 +56,8 @@ struct Table {
 ///
 /// Each transaction has its own entries, and each entry a stamp that tells its place in the order
 /// asked. So what a call costs does not depend on what other transactions asked for, but for
-/// `in_order`. A search is a halving of the live numbers.
+/// `in_order`. A search is a halving of the live numbers, and there is none for a `Handle` whose
+/// transaction is in its slot.
 pub struct Live {
     alloc: Global,
     table: Table,
@@ -140,18 +144,30 @@ impl Live {
         next_of(&self.table, after)
     }
 
-    /// Whether the transaction is live. One search.
-    pub fn is_live(&self, number: u64) -> bool
+    /// Whether a transaction of the number is live. One search.
+    pub fn contains(&self, number: u64) -> bool
         ensures { IsTrue result ↔ IsLive self.now number }
     {
-        matches!(slot_of(&self.table, number), Some(_))
+        matches!(search(&self.table, number), Some(_))
     }
 
-    /// Whether the transaction is live and falling. One search.
-    pub fn is_falling(&self, number: u64) -> bool
-        ensures { IsTrue result ↔ IsFalling self.now number }
+    /// The slot of the number's transaction, for its handle; any where it is not live. One search.
+    pub fn slot(&self, number: u64) -> usize {
+        search(&self.table, number).unwrap_or(0)
+    }
+
+    /// Whether the transaction is live.
+    pub fn is_live(&self, handle: Handle) -> bool
+        ensures { IsTrue result ↔ IsLive self.now handle.number }
     {
-        match slot_of(&self.table, number) {
+        matches!(slot_of(&self.table, handle), Some(_))
+    }
+
+    /// Whether the transaction is live and falling.
+    pub fn is_falling(&self, handle: Handle) -> bool
+        ensures { IsTrue result ↔ IsFalling self.now handle.number }
+    {
+        match slot_of(&self.table, handle) {
             Some(key) => self.table.slots[key].falling,
             None => false,
         }
@@ -165,31 +181,31 @@ impl Live {
     }
 
     /// What the transaction asked for and did not undo, in the order asked: nothing where it is not
-    /// live. One search.
-    pub fn entries_of(&self, number: u64) -> &[Stamped]
-        ensures { map stamped_entry result.now ≡ own number self.now.entries }
+    /// live.
+    pub fn entries_of(&self, handle: Handle) -> &[Stamped]
+        ensures { map stamped_entry result.now ≡ own handle.number self.now.entries }
     {
-        match slot_of(&self.table, number) {
+        match slot_of(&self.table, handle) {
             Some(key) => &self.table.slots[key].entries,
             None => &[],
         }
     }
 
-    /// How many calls and laters of the transaction there are together. One search.
-    pub fn count(&self, number: u64) -> usize
-        ensures { result ≡ length (own number self.now.entries) }
+    /// How many calls and laters of the transaction there are together.
+    pub fn count(&self, handle: Handle) -> usize
+        ensures { result ≡ length (own handle.number self.now.entries) }
     {
-        self.entries_of(number).len()
+        self.entries_of(handle).len()
     }
 
     /// Whether the transaction has left to its commit already what this call, answered so, would
-    /// leave. Where it would leave one, one search, and each entry of the transaction is looked at.
-    pub fn goes_twice(&self, number: u64, at: u8, call: &Call, reply: &Reply) -> bool
-        ensures { IsTrue result ↔ GoesTwice self.now.entries number
+    /// leave. Where it would leave one, each entry of the transaction is looked at.
+    pub fn goes_twice(&self, handle: Handle, at: u8, call: &Call, reply: &Reply) -> bool
+        ensures { IsTrue result ↔ GoesTwice self.now.entries handle.number
             (record { at = at; call = call.now; reply = reply.now }) }
     {
         match call.after(reply) {
-            Some(left) => is_going(self.entries_of(number), at, &left),
+            Some(left) => is_going(self.entries_of(handle), at, &left),
             None => false,
         }
     }
@@ -197,8 +213,9 @@ impl Live {
     /// Makes the transaction live and running, with nothing asked for. NoMemory leaves all as
     /// before. It takes a slot, and moves the others where there is room for no more; in the index
     /// the greater numbers move. One search.
-    pub fn enter(&mut self, number: u64) -> Result<(), Refusal>
+    pub fn enter(&mut self, number: u64) -> Result<Handle, Refusal>
         requires { IsLive self.old number → ⊥ }
+        ensures handle { IfOk result (λ handle. handle.number ≡ number) }
         ensures live { OnOk result (self.new.live ≡ maps.insert self.old.live number false) }
         ensures entries { self.new.entries ≡ self.old.entries }
         ensures rooms { KeepsRoom self.old self.new }
@@ -211,40 +228,43 @@ impl Live {
             falling: false,
             entries: Vec::new(self.alloc),
         })?;
-        list(&mut self.table.index, Seat { number, slot });
-        Ok(())
+        let handle = Handle { number, slot };
+        list(&mut self.table.index, handle);
+        Ok(handle)
     }
 
     /// Makes room for one more entry of the transaction, if it is live. NoMemory, which leaves all
     /// as before, only where it had no room: where there is no memory, or no stamp is left of 2^64.
-    /// One search; where there is no room, the transaction's entries move.
-    pub fn reserve(&mut self, number: u64) -> Result<(), Refusal>
-        ensures room { OnOk result (IsLive self.old number → HasRoom self.new number) }
+    /// Where there is no room, the transaction's entries move.
+    pub fn reserve(&mut self, handle: Handle) -> Result<(), Refusal>
+        ensures room { OnOk result (IsLive self.old handle.number →
+            HasRoom self.new handle.number) }
         ensures rooms { KeepsRoom self.old self.new }
         ensures live { self.new.live ≡ self.old.live }
         ensures entries { self.new.entries ≡ self.old.entries }
         ensures refusal { IsOkUnless result Refusal.NoMemory }
-        ensures succeeds { HasRoom self.old number → IsOk result }
+        ensures succeeds { HasRoom self.old handle.number → IsOk result }
         ensures unchanged { OnErr result (self.new ≡ self.old) }
     {
         if self.next == u64::MAX {
             return Err(Refusal::NoMemory);
         }
-        if let Some(key) = slot_of(&self.table, number) {
+        if let Some(key) = slot_of(&self.table, handle) {
             self.table.slots[key].entries.reserve(1)?;
         }
         Ok(())
     }
 
-    /// Notes what the transaction asks for as the newest entry, for which there is room. One search;
-    /// it takes no memory.
-    pub fn push(&mut self, number: u64, entry: Entry)
-        requires live { IsLive self.old number }
-        requires room { HasRoom self.old number }
-        ensures entries { self.new.entries ≡ self.old.entries ++ (number, entry_of entry) ∷ [] }
+    /// Notes what the transaction asks for as the newest entry, for which there is room. It takes
+    /// no memory.
+    pub fn push(&mut self, handle: Handle, entry: Entry)
+        requires live { IsLive self.old handle.number }
+        requires room { HasRoom self.old handle.number }
+        ensures entries { self.new.entries ≡
+            self.old.entries ++ (handle.number, entry_of entry) ∷ [] }
         ensures live { self.new.live ≡ self.old.live }
     {
-        let Some(key) = slot_of(&self.table, number) else {
+        let Some(key) = slot_of(&self.table, handle) else {
             unreachable!();
         };
         let stamp = self.next;
@@ -255,14 +275,14 @@ impl Live {
         self.count += 1;
     }
 
-    /// The newest call of the transaction, those that it put off not counted. One search, and a
-    /// look at what the transaction put off since that call.
-    pub fn newest(&self, number: u64) -> Option<&Logged>
-        ensures found { IfSome result (λ logged. HasNewestCall number self.now.entries
+    /// The newest call of the transaction, those that it put off not counted. It looks at what the
+    /// transaction put off since that call.
+    pub fn newest(&self, handle: Handle) -> Option<&Logged>
+        ensures found { IfSome result (λ logged. HasNewestCall handle.number self.now.entries
             (event_of logged.now)) }
-        ensures none { IfNone result (HasNoCall number self.now.entries) }
+        ensures none { IfNone result (HasNoCall handle.number self.now.entries) }
     {
-        let entries = self.entries_of(number);
+        let entries = self.entries_of(handle);
         let place = newest_place(entries)?;
         match &entries[place].entry {
             Entry::Asked(logged) => Some(logged),
@@ -271,17 +291,16 @@ impl Live {
     }
 
     /// Takes the newest call of the transaction out; the other entries stay in their order. Nothing
-    /// changes where it has no call. One search, and what the transaction put off since that call
-    /// moves.
-    pub fn pop(&mut self, number: u64) -> Option<Logged>
-        ensures found { IfSome result (λ logged. IsNewestCall number self.old.entries
+    /// changes where it has no call. What the transaction put off since that call moves.
+    pub fn pop(&mut self, handle: Handle) -> Option<Logged>
+        ensures found { IfSome result (λ logged. IsNewestCall handle.number self.old.entries
             (event_of logged) self.new.entries) }
-        ensures none { IfNone result (HasNoCall number self.old.entries) }
+        ensures none { IfNone result (HasNoCall handle.number self.old.entries) }
         ensures unchanged { IfNone result (self.new ≡ self.old) }
         ensures live { self.new.live ≡ self.old.live }
         ensures rooms { KeepsRoom self.old self.new }
     {
-        let key = slot_of(&self.table, number)?;
+        let key = slot_of(&self.table, handle)?;
         let place = newest_place(&self.table.slots[key].entries)?;
         let Stamped { entry, .. } = self.table.slots[key].entries.remove(place);
         self.count -= 1;
@@ -291,14 +310,13 @@ impl Live {
         }
     }
 
-    /// Makes the transaction falling, from now on. Nothing changes where it is not live. One
-    /// search.
-    pub fn fall(&mut self, number: u64)
-        ensures live { self.new.live ≡ fallen self.old.live number }
+    /// Makes the transaction falling, from now on. Nothing changes where it is not live.
+    pub fn fall(&mut self, handle: Handle)
+        ensures live { self.new.live ≡ fallen self.old.live handle.number }
         ensures entries { self.new.entries ≡ self.old.entries }
         ensures rooms { KeepsRoom self.old self.new }
     {
-        if let Some(key) = slot_of(&self.table, number) {
+        if let Some(key) = slot_of(&self.table, handle) {
             self.table.slots[key].falling = true;
         }
     }
@@ -311,8 +329,8 @@ impl Live {
         ensures rooms { KeepsRoom self.old self.new }
     {
         if let Ok(place) = place_of(&self.table.index, number) {
-            let seat = self.table.index.remove(place);
-            let gone = self.table.slots.remove(seat.slot);
+            let handle = self.table.index.remove(place);
+            let gone = self.table.slots.remove(handle.slot);
             self.count -= gone.entries.len();
         }
     }
@@ -352,37 +370,60 @@ fn push_all<'a>(all: &mut Vec<Owned<'a>>, transaction: &'a Transaction) -> Resul
 
 // Where the number stands in the index, or would stand. The greatest is looked at first, since the
 // newest transaction makes most calls; then halving.
-fn place_of(index: &[Seat], number: u64) -> Result<usize, usize>
+fn place_of(index: &[Handle], number: u64) -> Result<usize, usize>
     requires { AreRising index.now }
     ensures found { IfOk result (λ i. (i < length index.now) ×
-        HoldsAt (λ seat. seat.number ≡ number) index.now i) }
+        HoldsAt (λ handle. handle.number ≡ number) index.now i) }
     ensures absent { IfErr result (IsGapFor number index.now) }
 {
     match index.last() {
         Some(greatest) if greatest.number == number => Ok(index.len() - 1),
-        _ => index.binary_search_by_key(&number, |seat| seat.number),
+        _ => index.binary_search_by_key(&number, |handle| handle.number),
     }
 }
 
 // Puts a number that is not in the index into it. It takes no memory.
-fn list(index: &mut Vec<Seat>, seat: Seat)
+fn list(index: &mut Vec<Handle>, handle: Handle)
     requires rising { AreRising index.old.items }
     requires room { vec_len index.old < vec_capacity index.old }
-    requires fresh { All (λ other. other.number ≢ seat.number) index.old.items }
+    requires fresh { All (λ other. other.number ≢ handle.number) index.old.items }
     ensures rising { AreRising index.new.items }
-    ensures listed { (s : Seat) → Contains index.new.items s ↔
-        (Contains index.old.items s ⊎ (s ≡ seat)) }
+    ensures listed { (s : Handle) → Contains index.new.items s ↔
+        (Contains index.old.items s ⊎ (s ≡ handle)) }
 {
-    let Err(place) = place_of(index, seat.number) else {
+    let Err(place) = place_of(index, handle.number) else {
         unreachable!();
     };
-    let Ok(()) = index.insert(place, seat) else {
+    let Ok(()) = index.insert(place, handle) else {
         unreachable!();
     };
 }
 
-// The slot of a transaction's number.
-fn slot_of(table: &Table, number: u64) -> Option<usize>
+// The slot of a transaction: the one of its handle, and a search where it is not there.
+fn slot_of(table: &Table, handle: Handle) -> Option<usize>
+    requires { IsIndex table.now.slots table.now.index.items }
+    ensures found { IfSome result (IsSlotOf table.now.slots handle.number) }
+    ensures none { IfNone result ((key : ℕ) → IsSlotOf table.now.slots handle.number key → ⊥) }
+{
+    if is_at(&table.slots, handle) {
+        Some(handle.slot)
+    } else {
+        search(table, handle.number)
+    }
+}
+
+// Whether the transaction is in the slot of its handle.
+fn is_at(slots: &Slab<Transaction>, handle: Handle) -> bool
+    ensures { IsTrue result → IsSlotOf slots.now handle.number handle.slot }
+{
+    match slots.get(handle.slot) {
+        Some(transaction) => transaction.number == handle.number,
+        None => false,
+    }
+}
+
+// The slot of a transaction's number, by the index.
+fn search(table: &Table, number: u64) -> Option<usize>
     requires { IsIndex table.now.slots table.now.index.items }
     ensures found { IfSome result (IsSlotOf table.now.slots number) }
     ensures none { IfNone result ((key : ℕ) → IsSlotOf table.now.slots number key → ⊥) }
@@ -400,8 +441,8 @@ fn least_of(table: &Table) -> Option<u64>
     ensures none { IfNone result ((key : ℕ) (t : Transaction) →
         get table.now.slots key ≡ Some t → ⊥) }
 {
-    let seat = table.index.first()?;
-    Some(seat.number)
+    let handle = table.index.first()?;
+    Some(handle.number)
 }
 
 // The least number above another in the slots.
@@ -416,10 +457,10 @@ fn next_of(table: &Table, after: u64) -> Option<u64>
 }
 
 // Where the numbers above another begin in the index. Halving.
-fn place_above(index: &[Seat], after: u64) -> usize
+fn place_above(index: &[Handle], after: u64) -> usize
     requires { AreRising index.now }
-    ensures below { All (λ seat. seat.number ≤ after) (take result index.now) }
-    ensures above { All (λ seat. after < seat.number) (drop result index.now) }
+    ensures below { All (λ handle. handle.number ≤ after) (take result index.now) }
+    ensures above { All (λ handle. after < handle.number) (drop result index.now) }
 {
     match place_of(index, after) {
         Ok(place) => place + 1,

@@ -18,7 +18,7 @@ use std::io::Write;
 use std::process::ExitCode;
 use std::{env, fs};
 use system::System;
-use threads::{load, looks_on_two_shelves, second_call_during_sync};
+use threads::{load, looks_on_two_shelves, second_call_during_sync, waits_for_a_job};
 use trouble::Trouble;
 
 // Measures what words with spaces between them ask for.
@@ -33,6 +33,7 @@ fn ask(rt: &(impl System + Sync), line: &str, out: &mut impl Write) -> Result<()
     match word {
         "second_call_during_sync" => second_call_during_sync::run(rt, out),
         "looks_on_two_shelves" => looks_on_two_shelves::run(rt, out),
+        "waits_for_a_job" => waits_for_a_job::run(rt, out),
         "load" => load::run(rt, out),
         "bench" => measure(rt, rest, out),
         "compare" => comparison::compare(rt.alloc(), rest, out),

@@ -32,7 +32,7 @@ settle_all-ran-requires-clause-tables g c = c.requires.known.1.tables
 pub settle_all-ran-requires-clause-known : goal.settle_all-ran-requires-clause-known
 settle_all-ran-requires-clause-known g c =
     let j = c.args.journal.now in
-    let n = c.args.number in
+    let n = c.args.handle.number in
     let f = c.requires.known.0 in
     let known = c.requires.known.1 in
     let running = c.in_ok-place.ensures.running in
@@ -57,7 +57,7 @@ settle_all-ran-requires-clause-known g c =
 pub finish-requires : goal.finish-requires
 finish-requires g c =
     let j = c.args.journal.now in
-    let n = c.args.number in
+    let n = c.args.handle.number in
     let noted = c.entries_of.ensures ∙
     ap (λ (a : AccountsState). own n a.entries) c.in_ok-place.ensures.accounts in
     let ran = c.settle_all-ran.ensures.count ∙ ap (λ es. length (laters_of es)) noted in
@@ -70,7 +70,7 @@ finish-requires g c =
 
 pub returns : goal.returns
 returns g c f known =
-    let n = c.args.number in
+    let n = c.args.handle.number in
     let told = c.in_ok-place.ensures in
     let noted = c.entries_of.ensures ∙ ap (λ (a : AccountsState). own n a.entries) told.accounts in
     let settled = c.settle_all-ran.ensures.settled f known.leads in
@@ -91,7 +91,11 @@ returns-in_err-place g c =
     let told = c.in_err-place.ensures in
     let p = err_from_is_err_and c.from_residual.result c.from_residual.ensures.1 in
     commit_refused_known g.J.Naming g.B.Boosted.meaning g.B.Parts.making g.B.Parts.collections
-    g.B.Parts.whole g.B.Parts.fits c.args.number c.from_residual.result p.0
+    g.B.Parts.whole g.B.Parts.fits c.args.handle.number c.from_residual.result p.0
     c.in_err-place.field-0.0 c.args.journal.now c.prepare_commit.new.self c.args.nears.now
     p.1 p.2 told.same
-    (λ f. (refl, commit_refused g.B.Parts.whole c.args.journal.now f c.args.number _ told.err))
+    (λ f. (
+      refl,
+      commit_refused g.B.Parts.whole c.args.journal.now f c.args.handle.number _
+          told.err,
+    ))

@@ -7,14 +7,17 @@ use Rattle.txn.specs.Shelved.{book_state}
 use Rattle.checkpoint.specs.Keepers.{KeeperState}
 use Rattle.group_commit.specs.Accords.{AccordState}
 use Rattle.group_commit.specs.Lines.{stepped}
+use Rattle.group_commit.specs.Marks.{KeeperMark}
 use Rattle.group_commit.specs.Orders.{SenderState, ReceiverState, noting, noting_too}
 use Rattle.desks.specs.Notes.{alone}
 use Rattle.desks.specs.Told.{told_book}
 use Rattle.desks.specs.Touches.{IsJournalDesk}
 use Rattle.desks.proofs.Owning.{drawn_beside}
 use Rattle.store.specs.Gatherers.{Froze}
-use Rattle.store.specs.Turns.{IsFreezeRefusal}
+use Rattle.store.specs.Turns.{IsFreezeRefusal, FailsWith, stops_behind}
 use Rattle.store.specs.Vaults.{IsVault, Awaits}
+use Rattle.store.proofs.Causes.{froze_caused}
+use Rattle.store.proofs.VaultSteps.{vault_notes}
 use Rattle.store.proofs.Awaiting.{awaits_frozen, froze_not}
 use Rattle.store.proofs.Copied.{gathered_there, frozen_on, froze_same, froze_refused, froze_some}
 use Rattle.store.proofs.Freezes.{desk_kept, freeze_refused, freeze_held}
@@ -38,7 +41,7 @@ refused : (g : Over) (c : goal.After-from_residual g) →
     g.B.Parts.whole g.B.Parts.fits c.freeze_journal-frozen.new.journal c.desk.inside.nears
     c.note_alone.new.seat c.desk.inside.sender c.desk.inside.near
     × IsVault g.J.Naming g.D.Disk c.freeze_journal-frozen.new.keeper c.vault.inside.receiver
-    c.vault.inside.mark c.vault.inside.near
+    c.failure_told.new.seat c.vault.inside.near
     × Awaits c.freeze_journal-frozen.new.keeper.stage c.vault.inside.near.gather
     × (c.freeze_journal-frozen.new.gather.frozen ≡ None →
     c.freeze_journal-frozen.new.gather ≡ c.args.gather.now)
@@ -70,7 +73,11 @@ refused g c =
       frozen_on g.J.Naming i.journal i.nears i.seat i.sender i.near d g.D.Disk v.keeper k m n said.0
           (Err e) l c.note_alone.new.seat i.sender i.near froze
           (c.freeze_journal-frozen.ensures.kept d.shelves d.known.book) both.0,
-      both.1,
+      subst (λ (s : KeeperMark). IsVault g.J.Naming g.D.Disk k v.receiver s v.near)
+          (sym c.failure_told.ensures.seat) (vault_notes g.D.Disk g.J.Naming k v.receiver v.mark
+          v.near both.1 (stops_behind c.freeze_journal-frozen.result v.mark.stops)
+          (froze_caused g.D.Disk b a v.keeper k m n said.0 c.freeze_journal-frozen.result said.1
+          v.mark.stops c.vault.invariant.0.caused)),
       subst (λ (k : KeeperState _). Awaits k.stage v.near.gather)
           (sym (froze_not g.D.Disk b v.keeper m n said.0 e a k froze)) c.vault.invariant.1,
       froze_same g.D.Disk b a v.keeper k m n said.0 e froze,
@@ -81,6 +88,12 @@ pub returns-in_err-frozen-clause-err : goal.returns-in_err-frozen-clause-err
 returns-in_err-frozen-clause-err g c =
     let p = err_from_is_err_and c.from_residual.result c.from_residual.ensures.1 in
     rw p.1 (refl, (refused g c).3)
+
+pub returns-in_err-frozen-clause-watcher : goal.returns-in_err-frozen-clause-watcher
+returns-in_err-frozen-clause-watcher g c =
+    let p = err_from_is_err_and c.from_residual.result c.from_residual.ensures.1 in
+    rw (p.1, p.2) (subst (λ r. FailsWith c.args.watcher.now r c.failure_told.new.watcher)
+    c.in_err-frozen.was c.failure_told.ensures.watcher)
 
 pub returns-in_err-frozen-clause-refused : goal.returns-in_err-frozen-clause-refused
 returns-in_err-frozen-clause-refused g c =
@@ -106,7 +119,7 @@ invariant_of-desk g c = (
 pub invariant_of-vault : goal.invariant_of-vault
 invariant_of-vault g c = (
   subst (λ r. IsVault g.J.Naming g.D.Disk c.freeze_journal-frozen.new.keeper r
-      c.vault.inside.mark c.vault.inside.near) (sym c.compare-2.ensures.receiver)
+      c.failure_told.new.seat c.vault.inside.near) (sym c.compare-2.ensures.receiver)
       (refused g c).1,
   (refused g c).2,
 )
@@ -118,7 +131,8 @@ held : (g : Over) (c : goal.After-drop-shown g) →
     c.note_alone.new.seat (noting c.desk.inside.sender c.freeze_journal-frozen.new.gather)
     c.desk.inside.near
     × IsVault g.J.Naming g.D.Disk c.freeze_journal-frozen.new.keeper
-    (noting_too c.vault.inside.receiver c.freeze_journal-frozen.new.gather) c.vault.inside.mark
+    (noting_too c.vault.inside.receiver c.freeze_journal-frozen.new.gather)
+    c.failure_told.new.seat
     (record { table = c.vault.inside.near.table; gather = c.freeze_journal-frozen.new.gather })
     × Awaits c.freeze_journal-frozen.new.keeper.stage c.freeze_journal-frozen.new.gather
     × (c.freeze_journal-frozen.new.gather.frozen ≡ None → ⊥)
@@ -147,10 +161,21 @@ held g c =
       frozen_on g.J.Naming i.journal i.nears i.seat i.sender i.near d g.D.Disk v.keeper k m n said.0
           (Ok tt) l c.note_alone.new.seat (noting i.sender n) i.near froze
           (c.freeze_journal-frozen.ensures.kept d.shelves d.known.book) both.0,
-      both.1,
+      subst (λ (s : KeeperMark). IsVault g.J.Naming g.D.Disk k (noting_too v.receiver n) s
+          (record { table = v.near.table; gather = n })) (sym c.failure_told.ensures.seat)
+          (vault_notes g.D.Disk g.J.Naming k (noting_too v.receiver n) v.mark
+          (record { table = v.near.table; gather = n }) both.1
+          (stops_behind c.freeze_journal-frozen.result v.mark.stops)
+          (froze_caused g.D.Disk b a v.keeper k m n said.0 c.freeze_journal-frozen.result said.1
+          v.mark.stops c.vault.invariant.0.caused)),
       awaits_frozen g.D.Disk b v.keeper m n said.0 a k froze,
       froze_some g.D.Disk b a v.keeper k m n said.0 froze,
     )
+
+pub returns-clause-watcher : goal.returns-clause-watcher
+returns-clause-watcher g c =
+    subst (λ r. FailsWith c.args.watcher.now r c.failure_told.new.watcher) c.in_ok-frozen.was
+    c.failure_told.ensures.watcher
 
 pub returns-clause-ok : goal.returns-clause-ok
 returns-clause-ok g c = (
@@ -187,9 +212,9 @@ invariant_of-desk-2 g c = (
 pub invariant_of-vault-2 : goal.invariant_of-vault-2
 invariant_of-vault-2 g c = (
   subst (IsVault g.J.Naming g.D.Disk c.freeze_journal-frozen.new.keeper
-      c.note_frozen.new.receiver c.vault.inside.mark) (sym near_is)
+      c.note_frozen.new.receiver c.failure_told.new.seat) (sym near_is)
       (subst (λ r. IsVault g.J.Naming g.D.Disk c.freeze_journal-frozen.new.keeper r
-      c.vault.inside.mark
+      c.failure_told.new.seat
       (record { table = c.vault.inside.near.table; gather = c.freeze_journal-frozen.new.gather }))
       (sym receiver_is) (held g c).1),
   subst (λ (a : AccordState). Awaits c.freeze_journal-frozen.new.keeper.stage a.gather)

@@ -1,22 +1,22 @@
 use Rattle.std.proofs.Common.{subst}
-use Rattle.talks.specs.Talks.{Transacts, TransactsWithin}
+use Rattle.talks.specs.Talks.{Does, TransactsWithin}
 use Rattle.talks.proofs.answering.carry_out.Goals as goal
 
 pub returns-in-Do-clause-done : goal.returns-in-Do-clause-done
 returns-in-Do-clause-done g c = rw c.in-Do.is (
-  c.transact.result,
-  subst (λ rs. Transacts g.S.Speaker c.args.speaker.now rs c.transact.result
-      c.transact.new.speaker) c.as_slice.ensures.value c.transact.ensures,
+  c.run_line.result,
+  subst (λ rs. Does g.S.Speaker c.args.speaker.now rs c.run_line.result
+      c.run_line.new.speaker) c.as_slice.ensures.value c.run_line.ensures,
   c.told_of.ensures,
 )
 
 pub returns-in-DoAndKeep-clause-done : goal.returns-in-DoAndKeep-clause-done
 returns-in-DoAndKeep-clause-done g c = rw c.in-DoAndKeep.is (
-  c.transact-outcome.result,
-  c.transact-outcome.new.speaker,
-  subst (λ rs. Transacts g.S.Speaker c.args.speaker.now rs c.transact-outcome.result
-      c.transact-outcome.new.speaker) c.as_slice-in-DoAndKeep.ensures.value
-      c.transact-outcome.ensures,
+  c.run_line-outcome.result,
+  c.run_line-outcome.new.speaker,
+  subst (λ rs. Does g.S.Speaker c.args.speaker.now rs c.run_line-outcome.result
+      c.run_line-outcome.new.speaker) c.as_slice-in-DoAndKeep.ensures.value
+      c.run_line-outcome.ensures,
   c.keep_outcome.ensures.done,
 )
 

@@ -14,7 +14,7 @@ use Rattle.desks.proofs.desk.Desk.ask.Given.{Over}
 use Rattle.desks.proofs.desk.Desk.ask.Goals as goal
 
 abbrev action : (g : Over) → goal.After-wake g → Action
-action g c = Action.Ask c.args.number (Target.Named c.args.name.now (Some c.args.at))
+action g c = Action.Ask c.args.handle.number (Target.Named c.args.name.now (Some c.args.at))
     c.args.call.now c.args.when c.ask-replied.result
 
 -- the far end is of the twin
@@ -43,9 +43,11 @@ ask-replied-requires-clause-kept g c =
 
 pub ask-replied-requires-clause-looked : goal.ask-replied-requires-clause-looked
 ask-replied-requires-clause-looked g c = subst
-    (λ f. IsLooked g.B.Shelf.Boosted.meaning c.args.when f c.held.inside.shelf c.args.number c.args.at
+    (λ f. IsLooked g.B.Shelf.Boosted.meaning c.args.when f c.held.inside.shelf c.args.handle.number
+    c.args.at
     c.args.call.now c.args.looked) (sym c.self.invariant.0.format)
-    (subst (λ s. IsLooked g.B.Shelf.Boosted.meaning c.args.when g.J.Naming.origin.format s c.args.number
+    (subst (λ s. IsLooked g.B.Shelf.Boosted.meaning c.args.when g.J.Naming.origin.format s
+    c.args.handle.number
     c.args.at
     c.args.call.now c.args.looked) (sym c.held.view_is) c.requires.looked)
 
@@ -72,7 +74,7 @@ keeps g c =
     ap (λ (v : EndState _). v.table) c.of_mut-near.ensures.value in
     steps_over g.J.Naming g.met.B.Coded.told (Some c.args.me.now.number) i.journal i.nears i.seat
     i.sender i.near is l (put i.nears w e) (put is.shelves w t) c.note.new.seat (action g c)
-    (owns_step g.J.Naming is c.args.me.now c.args.number (action g c) c.note.ensures.seen
+    (owns_step g.J.Naming is c.args.me.now c.args.handle.number (action g c) c.note.ensures.seen
     c.requires.own refl refl)
     (known_on g.J.Naming i.journal i.nears is.shelves is.known w l t e table
     (leads_on c.compare.new.near e _ t c.note_touch.ensures.near refl)
@@ -85,7 +87,7 @@ keeps g c =
 
 pub invariant_of-self : goal.invariant_of-self
 invariant_of-self g c = kept_named c.self.inside.maker c.self.inside.seat c.note.new.seat
-    c.self.invariant (keeps g c) c.args.me.now c.args.number (action g c) c.note.ensures.seen
+    c.self.invariant (keeps g c) c.args.me.now c.args.handle.number (action g c) c.note.ensures.seen
     c.requires.own refl c.note.ensures.book
 
 pub invariant_of-held : goal.invariant_of-held

@@ -12,7 +12,7 @@ use Rattle.desks.proofs.desk.Desk.back.Given.{Over}
 use Rattle.desks.proofs.desk.Desk.back.Goals as goal
 
 abbrev action : (g : Over) → goal.After-wake g → Action
-action g c = Action.Back c.args.number c.back-undone.result
+action g c = Action.Back c.args.handle.number c.back-undone.result
 
 -- the far end is of the twin
 pub compare-requires-clause-far : goal.compare-requires-clause-far
@@ -40,7 +40,7 @@ back-undone-requires-clause-kept g c =
 
 pub back-undone-requires-clause-newest : goal.back-undone-requires-clause-newest
 back-undone-requires-clause-newest g c = subst
-    (HasNewestAt c.args.number c.self.inside.journal.accounts.entries) c.if-newest-at.false
+    (HasNewestAt c.args.handle.number c.self.inside.journal.accounts.entries) c.if-newest-at.false
     c.in_ok-newest.ensures.some
 
 keeps : (g : Over) (c : goal.After-wake g) → IsJournalDesk g.J.Naming g.B.Boosted.meaning
@@ -65,7 +65,7 @@ keeps g c =
     ap (λ (v : EndState _). v.table) c.of_mut-near.ensures.value in
     steps_over g.J.Naming g.met.B.Coded.told (Some c.args.me.now.number) i.journal i.nears i.seat
     i.sender i.near is l (put i.nears w e) (put is.shelves w t) c.note.new.seat (action g c)
-    (owns_step g.J.Naming is c.args.me.now c.args.number (action g c) c.note.ensures.seen
+    (owns_step g.J.Naming is c.args.me.now c.args.handle.number (action g c) c.note.ensures.seen
     c.requires.own refl refl)
     (known_on g.J.Naming i.journal i.nears is.shelves is.known w l t e table
     (leads_on c.compare.new.near e _ t c.note_touch.ensures.near refl)
@@ -75,7 +75,7 @@ keeps g c =
 
 pub invariant_of-self : goal.invariant_of-self
 invariant_of-self g c = kept_named c.self.inside.maker c.self.inside.seat c.note.new.seat
-    c.self.invariant (keeps g c) c.args.me.now c.args.number (action g c) c.note.ensures.seen
+    c.self.invariant (keeps g c) c.args.me.now c.args.handle.number (action g c) c.note.ensures.seen
     c.requires.own refl c.note.ensures.book
 
 pub invariant_of-held : goal.invariant_of-held

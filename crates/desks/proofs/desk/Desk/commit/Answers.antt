@@ -34,7 +34,7 @@ commit_over-committed-requires-clause-fourth g c none =
     (c.shelves_of-needed.ensures Fourth).0 (c.covers.ensures.fourth c.if-not-covers.false none)
 
 abbrev action : (g : Over) → goal.After-wake g → Action
-action g c = Action.Commit c.args.number c.commit_over-committed.result
+action g c = Action.Commit c.args.handle.number c.commit_over-committed.result
 
 keeps : (g : Over) (c : goal.After-wake g) → IsJournalDesk g.J.Naming g.B.Boosted.meaning
     g.B.Parts.making g.B.Parts.collections g.B.Parts.whole g.B.Parts.fits
@@ -47,12 +47,12 @@ keeps g c =
     steps_over g.J.Naming g.met.B.Coded.told (Some c.args.me.now.number) i.journal i.nears i.seat
     i.sender i.near is c.commit_over-committed.new.journal c.commit_over-committed.new.nears
     done.0 c.note.new.seat (action g c)
-    (owns_step g.J.Naming is c.args.me.now c.args.number (action g c) c.note.ensures.seen
+    (owns_step g.J.Naming is c.args.me.now c.args.handle.number (action g c) c.note.ensures.seen
     c.requires.own refl refl) done.1 done.2.answer done.2.goes c.note.ensures.book
 
 pub invariant_of-self : goal.invariant_of-self
 invariant_of-self g c = kept_named c.self.inside.maker c.self.inside.seat c.note.new.seat
-    c.self.invariant (keeps g c) c.args.me.now c.args.number (action g c) c.note.ensures.seen
+    c.self.invariant (keeps g c) c.args.me.now c.args.handle.number (action g c) c.note.ensures.seen
     c.requires.own refl c.note.ensures.book
 
 pub returns-clause-some : goal.returns-clause-some

@@ -12,7 +12,7 @@ end_over-ended-requires-clause-known g c =
     (is.shelves, is.known)
 
 abbrev action : (g : Over) → goal.After-wake g → Action
-action g c = Action.Ended c.args.number c.end_over-ended.result
+action g c = Action.Ended c.args.handle.number c.end_over-ended.result
 
 keeps : (g : Over) (c : goal.After-wake g) → IsJournalDesk g.J.Naming g.B.Boosted.meaning
     g.B.Parts.making g.B.Parts.collections g.B.Parts.whole g.B.Parts.fits
@@ -25,12 +25,12 @@ keeps g c =
     steps_over g.J.Naming g.met.B.Coded.told (Some c.args.me.now.number) i.journal i.nears i.seat
     i.sender i.near is c.end_over-ended.new.journal c.end_over-ended.new.nears done.0
     c.note.new.seat (action g c)
-    (owns_step g.J.Naming is c.args.me.now c.args.number (action g c) c.note.ensures.seen
+    (owns_step g.J.Naming is c.args.me.now c.args.handle.number (action g c) c.note.ensures.seen
     c.requires.own refl refl) done.1 done.2.answer done.2.goes c.note.ensures.book
 
 pub invariant_of-self : goal.invariant_of-self
 invariant_of-self g c = kept_named c.self.inside.maker c.self.inside.seat c.note.new.seat
-    c.self.invariant (keeps g c) c.args.me.now c.args.number (action g c) c.note.ensures.seen
+    c.self.invariant (keeps g c) c.args.me.now c.args.handle.number (action g c) c.note.ensures.seen
     c.requires.own refl c.note.ensures.book
 
 pub returns : goal.returns

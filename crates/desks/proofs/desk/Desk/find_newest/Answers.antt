@@ -8,7 +8,7 @@ use Rattle.desks.proofs.desk.Desk.find_newest.Given.{Over}
 use Rattle.desks.proofs.desk.Desk.find_newest.Goals as goal
 
 abbrev action : (g : Over) → goal.After-wake g → Action
-action g c = Action.Back c.args.number c.back_none-undone.result
+action g c = Action.Back c.args.handle.number c.back_none-undone.result
 
 keeps : (g : Over) (c : goal.After-wake g) →
     IsJournalDesk g.J.Naming g.B.Boosted.meaning g.B.Parts.making g.B.Parts.collections
@@ -21,7 +21,7 @@ keeps g c =
     let served = leads.told is.shelves is.known.book in
     steps_beside g.J.Naming g.met.B.Coded.told (Some c.args.me.now.number) i.journal i.nears i.seat
     i.sender i.near is c.back_none-undone.new.self c.note.new.seat (action g c)
-    (owns_step g.J.Naming is c.args.me.now c.args.number (action g c) c.note.ensures.seen
+    (owns_step g.J.Naming is c.args.me.now c.args.handle.number (action g c) c.note.ensures.seen
     c.requires.own refl refl)
     (leads.kept is.shelves is.known.book) served.answer served.goes c.note.ensures.book
 
@@ -31,12 +31,13 @@ back_none-undone-requires-clause-kept g c =
 
 pub back_none-undone-requires-clause-none : goal.back_none-undone-requires-clause-none
 back_none-undone-requires-clause-none g c = subst
-    (λ r. IfNone r (HasNoCall c.args.number c.self.inside.journal.accounts.entries)) c.in-None.is
+    (λ r. IfNone r (HasNoCall c.args.handle.number c.self.inside.journal.accounts.entries))
+    c.in-None.is
     c.newest.ensures.none
 
 pub invariant_of-self : goal.invariant_of-self
 invariant_of-self g c = kept_named c.self.inside.maker c.self.inside.seat c.note.new.seat
-    c.self.invariant (keeps g c) c.args.me.now c.args.number (action g c) c.note.ensures.seen
+    c.self.invariant (keeps g c) c.args.me.now c.args.handle.number (action g c) c.note.ensures.seen
     c.requires.own refl c.note.ensures.book
 
 pub returns-in-None-clause-err : goal.returns-in-None-clause-err

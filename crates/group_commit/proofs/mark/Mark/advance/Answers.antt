@@ -11,7 +11,7 @@ fetch_max-requires g c =
       search rules,
       omega (arith, c.self.invariant),
       λ s k len at lt. (
-        keeper (raised_to c.args.place g.W.OneMoment.moment v.raised),
+        keeper (raised_to c.args.place g.W.OneMoment.moment v.raised) v.stops,
         keeps,
         tt,
         advances s.words s.views k c.keeper.inside.seat.id v at c.args.place g.W.OneMoment.moment is,

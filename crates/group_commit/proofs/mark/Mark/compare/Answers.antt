@@ -23,22 +23,23 @@ join_seat-requires c =
       λ s k at apart there.
           shows s.words s.views k c.keeper.inside.seat.id c.keeper.inside.seat.me.0
           at (ap (λ (m : Seat). m.0) c.keeper.invariant)
-          c.split_seat-told.result.id c.split_seat-told.result.me.0 apart there,
+          c.split_seat-told.result.id c.split_seat-told.result.me.0
+          (ap (λ (m : Seat). m.0.sets) told.4) apart there,
     )
 
 pub load-requires : goal.load-requires
 load-requires c =
     let joined = c.join_seat.ensures in
     let v = c.join_seat.new.seat.me.0 in
-    let was : v ≡ shown c.keeper.inside.seat.me.0.raised c.split_seat-told.result.me.0.counts =
-    ap (λ (m : Seat). m.0) joined.2 in
-    let is : v ≡ shown v.raised v.counts =
-    subst (λ (u : Tide). u ≡ shown u.raised u.counts) (sym was) refl in (
+    let was : v ≡ shown c.keeper.inside.seat.me.0.raised c.split_seat-told.result.me.0.counts
+    c.keeper.inside.seat.me.0.stops = ap (λ (m : Seat). m.0) joined.2 in
+    let is : v ≡ shown v.raised v.counts v.stops =
+    subst (λ (u : Tide). u ≡ shown u.raised u.counts u.stops) (sym was) refl in (
       search rules,
       omega (arith, c.self.invariant),
       λ s k len at lt.
           let told = compares s.words s.views k c.join_seat.new.seat.id v at is in
-          (keeper v.raised, keeps, tt, told.0, (refl, told.1, refl)),
+          (keeper v.raised v.stops, keeps, tt, told.0, (refl, told.1, refl)),
     )
 
 pub returns-clause-noted : goal.returns-clause-noted

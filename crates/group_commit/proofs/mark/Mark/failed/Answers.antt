@@ -1,7 +1,7 @@
-use Rattle.std.proofs.Common.{rules, ◌==◌, [], ◌∷◌, ◌++◌, refl, arith}
+use Rattle.std.proofs.Common.{rules, ◌==◌, [], ◌∷◌, ◌++◌, ap, refl, arith}
 use Rattle.std.specs.Prelude.{slice_index}
 use Rattle.atomic_table.specs.Table.{keeps}
-use Rattle.group_commit.specs.Rising.{watcher}
+use Rattle.group_commit.specs.Rising.{Seat, watcher}
 use Rattle.group_commit.proofs.Marking.{loads_flag}
 use Rattle.group_commit.proofs.mark.Mark.failed.Goals as goal
 
@@ -11,8 +11,9 @@ load-requires c =
       search rules,
       omega (arith, c.self.invariant),
       λ s k len at lt.
-          let told = loads_flag s.words s.views k c.watcher.inside.seat.id v at in (
-            watcher v.counts (v.flags ++ (slice_index s.words 1 == 1) ∷ []),
+          let told = loads_flag s.words s.views k c.watcher.inside.seat.id v at
+          (ap (λ (m : Seat). m.0.sets) c.watcher.invariant) in (
+            watcher v.counts (v.flags ++ (slice_index s.words 1 == 1) ∷ []) v.stops,
             keeps,
             tt,
             told.0,

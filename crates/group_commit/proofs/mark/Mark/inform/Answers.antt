@@ -18,7 +18,8 @@ join_seat-requires c =
       ap (λ (m : Seat). m.1) told.4,
       omega (arith, c.self.invariant),
       λ s k at apart there. hears s.words s.views k c.to.inside.seat.id c.to.inside.seat.me.0
-          at c.split_seat-told.result.id c.split_seat-told.result.me.0 apart there,
+          at (ap (λ (m : Seat). m.0.sets) c.to.invariant) c.split_seat-told.result.id
+          c.split_seat-told.result.me.0 (ap (λ (m : Seat). m.0.sets) told.4) apart there,
     )
 
 pub returns-clause-to : goal.returns-clause-to

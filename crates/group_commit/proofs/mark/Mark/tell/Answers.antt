@@ -20,5 +20,6 @@ join_seat-requires c =
       omega (arith, c.self.invariant),
       λ s k at apart there.
           hears s.words s.views k c.watcher.inside.seat.id c.watcher.inside.seat.me.0
-          at c.split_seat-told.result.id c.split_seat-told.result.me.0 apart there,
+          at (ap (λ (m : Seat). m.0.sets) c.watcher.invariant) c.split_seat-told.result.id
+          c.split_seat-told.result.me.0 (ap (λ (m : Seat). m.0.sets) told.4) apart there,
     )

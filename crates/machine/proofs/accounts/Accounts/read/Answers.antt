@@ -13,11 +13,11 @@ use Rattle.machine.proofs.accounts.Accounts.read.Goals as goal
 -- the step that was taken
 step : (g : Over) (c : goal.After-push g) → let i = c.self.inside in
     ReadRow g.C.Boosted.meaning (state_on (accounts_of i.format i.live i.wear) c.args.shelf.now)
-    c.args.number (event_of c.args.asked)
+    c.args.handle.number (event_of c.args.asked)
     (state_on (accounts_of i.format c.push.new.self i.wear) c.hold.new.self)
 step g c =
     let i = c.self.inside in
-    let n = c.args.number in
+    let n = c.args.handle.number in
     let e = event_of c.args.asked in
     let shelf = c.args.shelf.now in
     read_row i.format shelf.now shelf.holds i.live i.wear n

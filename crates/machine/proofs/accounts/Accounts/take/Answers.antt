@@ -11,22 +11,22 @@ use Rattle.machine.proofs.accounts.Accounts.take.Goals as goal
 
 pub take-requires-clause-answered : goal.take-requires-clause-answered
 take-requires-clause-answered g c = can_answer g.C.Boosted.meaning
-    (state_on c.args.self.now c.args.shelf.now) c.args.number (entry_of c.args.entry)
+    (state_on c.args.self.now c.args.shelf.now) c.args.handle.number (entry_of c.args.entry)
     c.requires.can
 
 pub take-requires-clause-clear : goal.take-requires-clause-clear
 take-requires-clause-clear g c = rw c.requires.need (can_clear g.C.Boosted.meaning
-    (state_on c.args.self.now c.args.shelf.now) c.args.number (entry_of c.args.entry)
+    (state_on c.args.self.now c.args.shelf.now) c.args.handle.number (entry_of c.args.entry)
     c.requires.can)
 
 -- the step that was taken
 step : (g : Over) (c : goal.After-self-1 g) → let i = c.self.inside in
     AcceptRow g.C.Boosted.meaning (state_on (accounts_of i.format i.live i.wear) c.args.shelf.now)
-    c.args.number (entry_of c.args.entry)
+    c.args.handle.number (entry_of c.args.entry)
     (state_on (accounts_of i.format c.push.new.self (i.wear + 1)) c.take.new.self)
 step g c =
     let i = c.self.inside in
-    let n = c.args.number in
+    let n = c.args.handle.number in
     let e = entry_of c.args.entry in
     let shelf = c.args.shelf.now in
     taken_row i.format shelf.now shelf.holds i.live i.wear n

@@ -8,17 +8,18 @@ use Rattle.machine.proofs.accounts.Accounts.unread.Goals as goal
 
 -- the step that was taken
 step : (c : goal.Joined-read) → let i = c.self.inside in
-    UnreadRow (alone (accounts_of i.format i.live i.wear)) c.args.number
+    UnreadRow (alone (accounts_of i.format i.live i.wear)) c.args.handle.number
     (alone (accounts_of i.format c.fall.new.self i.wear))
 step c =
     let i = c.self.inside in
-    unread_row i.format tt [] i.live i.wear c.args.number
+    unread_row i.format tt [] i.live i.wear c.args.handle.number
     c.pop-read.new.self.entries c.fall.new.self i.wear c.pop-read.result
-    (subst (λ (a : AccountsState). Lives a.live c.args.number) (sym c.self.view_is)
+    (subst (λ (a : AccountsState). Lives a.live c.args.handle.number) (sym c.self.view_is)
     c.requires.live)
-    (subst (λ (a : AccountsState). HasNewestRead c.args.number a.entries) (sym c.self.view_is)
+    (subst (λ (a : AccountsState). HasNewestRead c.args.handle.number a.entries)
+    (sym c.self.view_is)
     c.requires.newest) c.pop-read.ensures.found c.pop-read.ensures.none
-    (c.fall.ensures.live ∙ ap (λ v. fallen v c.args.number) c.pop-read.ensures.live)
+    (c.fall.ensures.live ∙ ap (λ v. fallen v c.args.handle.number) c.pop-read.ensures.live)
     c.fall.ensures.entries refl
 
 pub returns : goal.returns

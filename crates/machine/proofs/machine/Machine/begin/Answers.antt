@@ -19,7 +19,14 @@ invariant_of-self g c = kept_if
     (IsUpheld g.B.Boosted.meaning g.B.Parts.making (λ f s. AreShort f (g.B.Parts.collections s))
     (IsSound g.B.Boosted.meaning g.B.Parts.making)) c.begin.result c.begin.ensures.ok
     c.begin.ensures.same
-    (λ row. begin_upheld g.B.Boosted.meaning g.B.Parts.making (λ f s. AreShort f (g.B.Parts.collections s))
+    (λ row. begin_upheld g.B.Boosted.meaning g.B.Parts.making
+    (λ f s. AreShort f (g.B.Parts.collections s))
     (laws g) _ c.self.invariant c.args.number _
     (begin_on c.self.inside.accounts c.begin.new.self c.args.number c.self.inside.shelf row))
     (ap (λ (a : AccountsState). state_on a c.self.inside.shelf)) c.self.invariant
+
+pub invariant_of-self-2 : goal.invariant_of-self-2
+invariant_of-self-2 g c = begin_upheld g.B.Boosted.meaning g.B.Parts.making
+    (λ f s. AreShort f (g.B.Parts.collections s)) (laws g) _ c.self.invariant c.args.number _
+    (begin_on c.self.inside.accounts c.begin.new.self c.args.number c.self.inside.shelf
+    c.in_ok-begin.ensures.ok)

@@ -18,7 +18,7 @@ laws g = book_laws g.met.B.Boosted.laws g.met.B.Parts.laws g.met.B.Coded.told
 
 pub settle-ran-requires : goal.settle-ran-requires
 settle-ran-requires g c =
-    let noted = c.entries_of-entries.ensures ∙ ap (own c.args.number) c.live.ensures.entries in
+    let noted = c.entries_of-entries.ensures ∙ ap (own c.args.number) c.live-live.ensures.entries in
     subst (λ es. CanRun g.B.Boosted.meaning (laters_of es) c.self.inside.shelf.now) (sym noted)
     (commit_ready g.B.Boosted.meaning g.B.Parts.making (λ f s. AreShort f (g.B.Parts.collections s))
     (laws g) _ c.self.invariant c.args.number
@@ -26,8 +26,9 @@ settle-ran-requires g c =
 
 pub finish-requires : goal.finish-requires
 finish-requires g c =
-    let noted = c.entries_of-entries.ensures ∙ ap (own c.args.number) c.live.ensures.entries in
-    let fits = commit_fits g.B.Boosted.meaning g.B.Parts.making (λ f s. AreShort f (g.B.Parts.collections s))
+    let noted = c.entries_of-entries.ensures ∙ ap (own c.args.number) c.live-live.ensures.entries in
+    let fits = commit_fits g.B.Boosted.meaning g.B.Parts.making
+    (λ f s. AreShort f (g.B.Parts.collections s))
     (laws g) _ c.self.invariant c.args.number in
     let ran = c.settle-ran.ensures.count ∙ ap (λ es. length (laters_of es)) noted in
     omega arith
@@ -40,7 +41,7 @@ step g c =
     let i = c.self.inside in
     let n = c.args.number in
     let shelf = c.settle-ran.new.self in
-    let noted = c.entries_of-entries.ensures ∙ ap (own n) c.live.ensures.entries in
+    let noted = c.entries_of-entries.ensures ∙ ap (own n) c.live-live.ensures.entries in
     let ran = c.settle-ran.ensures.count ∙ ap (λ es. length (laters_of es)) noted in
     let running = subst (λ (s : State _). IsRunning s n) (sym c.self.view_is) c.requires in
     subst (λ a. CommitRow g.B.Boosted.meaning (state_on i.accounts i.shelf) n (state_on a shelf))
@@ -51,7 +52,8 @@ step g c =
     c.settle-ran.ensures.runs))
 
 pub invariant_of-self : goal.invariant_of-self
-invariant_of-self g c = commit_upheld g.B.Boosted.meaning g.B.Parts.making (λ f s. AreShort f (g.B.Parts.collections s))
+invariant_of-self g c = commit_upheld g.B.Boosted.meaning g.B.Parts.making
+    (λ f s. AreShort f (g.B.Parts.collections s))
     (laws g) _ c.self.invariant c.args.number _ (step g c)
 
 pub returns : goal.returns

@@ -11,8 +11,8 @@ found : (g : Over) (c : goal.After-is_some g) →
     (is_some c.newest.result ≡ true) ↔ (HasNoCall c.args.number c.args.self.now.entries → ⊥)
 found g c =
     subst (λ (es : List (ℕ × Entry)). (is_some c.newest.result ≡ true) ↔
-    (HasNoCall c.args.number es → ⊥)) c.live.ensures.entries
-    (call_there c.args.number c.live.result.now.entries (λ l. event_of l.now) c.newest.result
+    (HasNoCall c.args.number es → ⊥)) c.live-live.ensures.entries
+    (call_there c.args.number c.live-live.result.now.entries (λ l. event_of l.now) c.newest.result
     c.newest.ensures.found c.newest.ensures.none)
 
 pub returns-clause-some : goal.returns-clause-some

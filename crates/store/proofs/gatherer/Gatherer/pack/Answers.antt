@@ -18,7 +18,7 @@ pub invariant_of-self-in-Err : goal.invariant_of-self-in-Err
 invariant_of-self-in-Err g c =
     let m = c.self.inside.gather in
     let some : m.frozen ≢ None = some_is m.frozen
-    (subst (λ (s : GathererState). IsSome s.gather.frozen) (sym c.self.view_is) c.requires) in
+    (subst (λ (s : GathererState). IsSome s.gather.frozen) (sym c.self.view_is) c.requires.frozen) in
     let back : Repeats m c.in-Err.gather =
     subst (λ v. Repeats v c.in-Err.gather) c.replace.ensures.value c.in-Err.ensures.back in
     holds_frozen g.J.Naming c.self.inside.of_book c.self.inside.of_keeper c.in-Err.gather

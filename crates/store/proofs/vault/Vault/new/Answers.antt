@@ -10,6 +10,7 @@ invariant_of-result g c = (
     mark = refl;
     awaited = refl;
     marked = omega arith;
+    caused = λ once. absurd (omega (arith, once));
     noted = λ some. absurd (some refl);
     received = c.requires.received;
   }),

@@ -7,7 +7,7 @@ use Rattle.txn.proofs.journal.Journal.back.Goals as goal
 
 pub unread-requires-clause-newest : goal.unread-requires-clause-newest
 unread-requires-clause-newest g c =
-    subst (λ (j : JournalState _). HasNewestRead c.args.number j.accounts.entries)
+    subst (λ (j : JournalState _). HasNewestRead c.args.handle.number j.accounts.entries)
     (sym c.self.view_is) (c.newest_reads.ensures.0 c.if-newest_reads.true)
 
 pub returns-then-newest_reads : goal.returns-then-newest_reads
@@ -15,5 +15,5 @@ returns-then-newest_reads g c =
     let room = subst (λ (j : JournalState _). length j.pending < 16384) (sym c.self.view_is)
     c.in_ok-check_backlog.ensures.ok in
     rw (← c.self.view_is) (unread_on g.met.B.Boosted.laws g.met.B.Parts.laws g.met.B.Coded.told
-    g.met.B.Parts.shelf_laws _ _ c.args.number c.args.shelf.now (which_of c.args.at)
+    g.met.B.Parts.shelf_laws _ _ c.args.handle.number c.args.shelf.now (which_of c.args.at)
     c.unread.ensures room refl)

@@ -12,12 +12,14 @@ use Rattle.txn.proofs.journal.Journal.prepare_commit.Goals as goal
 
 pub push-requires-clause-room : goal.push-requires-clause-room
 push-requires-clause-room g c =
-    subst (HasRoomFor c.reserve.new.self) (mark_length c.args.number) c.in_ok-reserve.ensures.room
+    subst (HasRoomFor c.reserve.new.self) (mark_length c.args.handle.number)
+    c.in_ok-reserve.ensures.room
 
 pub note_all-requires : goal.note_all-requires
 note_all-requires g c =
     let i = c.self.inside in
-    let noted = c.entries_of-entries.ensures ∙ ap (own c.args.number) c.live.ensures.entries in
+    let noted = c.entries_of-entries.ensures ∙
+    ap (own c.args.handle.number) c.live.ensures.entries in
     let book = subst (IsJournal g.B.Boosted.meaning g.B.Parts.making g.B.Parts.collections
     g.B.Parts.whole g.B.Parts.fits) (sym c.self.view_is) c.requires.kept in
     record {
@@ -25,5 +27,5 @@ note_all-requires g c =
           (ready_short i.gathering _ (each_short c.next_position-position.result _
           (subst (λ es. AllByRecursion (λ e. IsShort widest e.call) (laters_of es)) (sym noted)
           (laters_short g.met.B.Boosted.laws g.met.B.Parts.laws g.met.B.Coded.told
-          g.met.B.Parts.shelf_laws _ book c.args.number))));
+          g.met.B.Parts.shelf_laws _ book c.args.handle.number))));
     }

@@ -17,14 +17,15 @@ use Rattle.txn.proofs.journal.Journal.write_back.Goals as goal
 pub unreachable-requires : goal.unreachable-requires
 unreachable-requires g c =
     let on = c.requires.newest in
-    newest_there c.args.number c.args.self.now.accounts.entries on.0 on.1
-    (subst (HasNoCall c.args.number)
+    newest_there c.args.handle.number c.args.self.now.accounts.entries on.0 on.1
+    (subst (HasNoCall c.args.handle.number)
     (c.live.ensures.entries ∙ ap (λ (j : JournalState _). j.accounts.entries) c.self.view_is)
     c.in_default.ensures.none)
 
 pub push-requires-clause-room : goal.push-requires-clause-room
 push-requires-clause-room g c =
-    subst (HasRoomFor c.reserve.new.self) (mark_length c.args.number) c.in_ok-reserve.ensures.room
+    subst (HasRoomFor c.reserve.new.self) (mark_length c.args.handle.number)
+    c.in_ok-reserve.ensures.room
 
 pub effect_of_undoing-requires-clause-askable : goal.effect_of_undoing-requires-clause-askable
 effect_of_undoing-requires-clause-askable g c =
@@ -33,12 +34,14 @@ effect_of_undoing-requires-clause-askable g c =
     let book = subst (λ j. IsOfBook g.B.Boosted.meaning g.B.Parts.making g.B.Parts.collections
     g.B.Parts.whole g.B.Parts.fits (which_of c.args.at) j c.args.shelf.now) (sym c.self.view_is)
     c.requires.kept in
-    let new = subst (λ (es : List (ℕ × Entry)). HasNewestCall c.args.number es x)
+    let new = subst (λ (es : List (ℕ × Entry)). HasNewestCall c.args.handle.number es x)
     c.live.ensures.entries c.in-Some.ensures.found in
-    let on = subst (λ (j : JournalState _). HasNewestAt c.args.number j.accounts.entries c.args.at)
+    let on = subst (λ (j : JournalState _). HasNewestAt c.args.handle.number j.accounts.entries
+    c.args.at)
     (sym c.self.view_is) c.requires.newest in
     (undo_here g.met.B.Boosted.laws g.met.B.Parts.laws g.met.B.Coded.told
-    g.met.B.Parts.shelf_laws _ c.args.shelf.now c.args.number c.args.at book x new on x new).0
+    g.met.B.Parts.shelf_laws _ c.args.shelf.now c.args.handle.number c.args.at book x new on x
+    new).0
 
 pub effect_of_undoing-requires-clause-told : goal.effect_of_undoing-requires-clause-told
 effect_of_undoing-requires-clause-told g c =
@@ -47,12 +50,13 @@ effect_of_undoing-requires-clause-told g c =
     let book = subst (λ j. IsOfBook g.B.Boosted.meaning g.B.Parts.making g.B.Parts.collections
     g.B.Parts.whole g.B.Parts.fits (which_of c.args.at) j c.args.shelf.now) (sym c.self.view_is)
     c.requires.kept in
-    let new = subst (λ (es : List (ℕ × Entry)). HasNewestCall c.args.number es x)
+    let new = subst (λ (es : List (ℕ × Entry)). HasNewestCall c.args.handle.number es x)
     c.live.ensures.entries c.in-Some.ensures.found in
-    let on = subst (λ (j : JournalState _). HasNewestAt c.args.number j.accounts.entries c.args.at)
+    let on = subst (λ (j : JournalState _). HasNewestAt c.args.handle.number j.accounts.entries
+    c.args.at)
     (sym c.self.view_is) c.requires.newest in
     reply_short g.met.B.Boosted.laws g.met.B.Parts.laws g.met.B.Coded.told
-    g.met.B.Parts.shelf_laws _ c.args.shelf.now c.args.number c.args.at book x new on
+    g.met.B.Parts.shelf_laws _ c.args.shelf.now c.args.handle.number c.args.at book x new on
 
 pub effect_of_undoing-requires-clause-undoes : goal.effect_of_undoing-requires-clause-undoes
 effect_of_undoing-requires-clause-undoes g c =
@@ -61,12 +65,14 @@ effect_of_undoing-requires-clause-undoes g c =
     let book = subst (λ j. IsOfBook g.B.Boosted.meaning g.B.Parts.making g.B.Parts.collections
     g.B.Parts.whole g.B.Parts.fits (which_of c.args.at) j c.args.shelf.now) (sym c.self.view_is)
     c.requires.kept in
-    let new = subst (λ (es : List (ℕ × Entry)). HasNewestCall c.args.number es x)
+    let new = subst (λ (es : List (ℕ × Entry)). HasNewestCall c.args.handle.number es x)
     c.live.ensures.entries c.in-Some.ensures.found in
-    let on = subst (λ (j : JournalState _). HasNewestAt c.args.number j.accounts.entries c.args.at)
+    let on = subst (λ (j : JournalState _). HasNewestAt c.args.handle.number j.accounts.entries
+    c.args.at)
     (sym c.self.view_is) c.requires.newest in
     let can = (undo_here g.met.B.Boosted.laws g.met.B.Parts.laws g.met.B.Coded.told
-    g.met.B.Parts.shelf_laws _ c.args.shelf.now c.args.number c.args.at book x new on x new).1 in (
+    g.met.B.Parts.shelf_laws _ c.args.shelf.now c.args.handle.number c.args.at book x new on x
+    new).1 in (
       can.0,
       subst (λ v. Undoes g.B.Shelf.Boosted.meaning v x.at x.call x.reply can.0)
           (sym c.collections.ensures) can.1,
@@ -75,8 +81,9 @@ effect_of_undoing-requires-clause-undoes g c =
 pub back-requires-clause-call : goal.back-requires-clause-call
 back-requires-clause-call g c =
     let x = event_of c.in-Some.newest.now in
-    newest_there c.args.number c.self.inside.accounts.entries x
-    (subst (λ (es : List (ℕ × Entry)). HasNewestCall c.args.number es x) c.live.ensures.entries
+    newest_there c.args.handle.number c.self.inside.accounts.entries x
+    (subst (λ (es : List (ℕ × Entry)). HasNewestCall c.args.handle.number es x)
+    c.live.ensures.entries
     c.in-Some.ensures.found)
 
 pub back-requires-clause-undoes : goal.back-requires-clause-undoes
@@ -86,12 +93,13 @@ back-requires-clause-undoes g c =
     let book = subst (λ j. IsOfBook g.B.Boosted.meaning g.B.Parts.making g.B.Parts.collections
     g.B.Parts.whole g.B.Parts.fits (which_of c.args.at) j c.args.shelf.now) (sym c.self.view_is)
     c.requires.kept in
-    let new = subst (λ (es : List (ℕ × Entry)). HasNewestCall c.args.number es x)
+    let new = subst (λ (es : List (ℕ × Entry)). HasNewestCall c.args.handle.number es x)
     c.live.ensures.entries c.in-Some.ensures.found in
-    let on = subst (λ (j : JournalState _). HasNewestAt c.args.number j.accounts.entries c.args.at)
+    let on = subst (λ (j : JournalState _). HasNewestAt c.args.handle.number j.accounts.entries
+    c.args.at)
     (sym c.self.view_is) c.requires.newest in
     undo_here g.met.B.Boosted.laws g.met.B.Parts.laws g.met.B.Coded.told
-    g.met.B.Parts.shelf_laws _ c.args.shelf.now c.args.number c.args.at book x new on
+    g.met.B.Parts.shelf_laws _ c.args.shelf.now c.args.handle.number c.args.at book x new on
 
 pub back-requires-clause-reach : goal.back-requires-clause-reach
 back-requires-clause-reach g c =
@@ -100,12 +108,13 @@ back-requires-clause-reach g c =
     let book = subst (λ j. IsOfBook g.B.Boosted.meaning g.B.Parts.making g.B.Parts.collections
     g.B.Parts.whole g.B.Parts.fits (which_of c.args.at) j c.args.shelf.now) (sym c.self.view_is)
     c.requires.kept in
-    let new = subst (λ (es : List (ℕ × Entry)). HasNewestCall c.args.number es x)
+    let new = subst (λ (es : List (ℕ × Entry)). HasNewestCall c.args.handle.number es x)
     c.live.ensures.entries c.in-Some.ensures.found in
-    let on = subst (λ (j : JournalState _). HasNewestAt c.args.number j.accounts.entries c.args.at)
+    let on = subst (λ (j : JournalState _). HasNewestAt c.args.handle.number j.accounts.entries
+    c.args.at)
     (sym c.self.view_is) c.requires.newest in
     reach_here g.met.B.Boosted.laws g.met.B.Parts.laws g.met.B.Coded.told
-    g.met.B.Parts.shelf_laws _ c.args.shelf.now c.args.number c.args.at book x new on
+    g.met.B.Parts.shelf_laws _ c.args.shelf.now c.args.handle.number c.args.at book x new on
 
 pub returns-clause-ok : goal.returns-clause-ok
 returns-clause-ok g c =
@@ -114,14 +123,16 @@ returns-clause-ok g c =
     let book = subst (λ j. IsOfBook g.B.Boosted.meaning g.B.Parts.making g.B.Parts.collections
     g.B.Parts.whole g.B.Parts.fits (which_of c.args.at) j c.args.shelf.now) (sym c.self.view_is)
     c.requires.kept in
-    let new = subst (λ (es : List (ℕ × Entry)). HasNewestCall c.args.number es x)
+    let new = subst (λ (es : List (ℕ × Entry)). HasNewestCall c.args.handle.number es x)
     c.live.ensures.entries c.in-Some.ensures.found in
-    let on = subst (λ (j : JournalState _). HasNewestAt c.args.number j.accounts.entries c.args.at)
+    let on = subst (λ (j : JournalState _). HasNewestAt c.args.handle.number j.accounts.entries
+    c.args.at)
     (sym c.self.view_is) c.requires.newest in
     let meaning = g.B.Shelf.Boosted.meaning in
     let room = subst (λ (j : JournalState _). length j.pending < 16384) (sym c.self.view_is)
     c.requires.room in
-    let unread = subst (λ (j : JournalState _). HasNewestRead c.args.number j.accounts.entries → ⊥)
+    let unread = subst (λ (j : JournalState _). HasNewestRead c.args.handle.number
+    j.accounts.entries → ⊥)
     (sym c.self.view_is) c.requires.written in
     let next = c.next_position-position.ensures ∙
     ap (λ (j : JournalState _). journal_position j + 1) (sym c.self.view_is) in
@@ -134,9 +145,10 @@ returns-clause-ok g c =
     let notes = c.note.ensures ∙ ap (noted i.gathering) undoing.3 ∙ note_kept i.gathering es in
     let reserved = c.in_ok-reserve.ensures in
     rw (← c.self.view_is) (back_on g.met.B.Boosted.laws g.met.B.Parts.laws g.met.B.Coded.told
-    g.met.B.Parts.shelf_laws _ _ c.args.number c.args.shelf.now c.back.new.shelf x es
+    g.met.B.Parts.shelf_laws _ _ c.args.handle.number c.args.shelf.now c.back.new.shelf x es
     before c.args.at (newest_at g.met.B.Boosted.laws g.met.B.Parts.laws g.met.B.Coded.told
-    g.met.B.Parts.shelf_laws _ c.args.shelf.now c.args.number c.args.at book x new on) new unread
+    g.met.B.Parts.shelf_laws _ c.args.shelf.now c.args.handle.number c.args.at book x new on) new
+    unread
     c.in_ok-back.ensures.ok
     (written i.pending c.reserve.new.self c.push.new.self room reserved.records reserved.freezes
     reserved.handed c.push.ensures.records c.push.ensures.freezes c.push.ensures.handed

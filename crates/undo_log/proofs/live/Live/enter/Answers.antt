@@ -2,7 +2,7 @@ use Rattle.std.proofs.Common.{◌∙◌, ◌≡◌, ◌≢◌, ℕ, List, sym, a
 use Rattle.std.specs.FinMap as maps
 use Rattle.slab.specs.Slab.{Slab, get}
 use Rattle.undo_log.specs.declared.live.Transaction.{Transaction}
-use Rattle.undo_log.specs.declared.live.Seat.{Seat}
+use Rattle.undo_log.specs.declared.live.Handle.{Handle}
 use Rattle.undo_log.specs.Logs.{Log, HasRoom, IsLive, EachOnce}
 use Rattle.undo_log.specs.Stamps.{AreStamped}
 use Rattle.undo_log.specs.Index.{IsIndex}
@@ -27,7 +27,8 @@ empty c u h =
     cc
 
 -- room in the index is no change
-reserved : (s : Slab Transaction) (old new : List Seat) → new ≡ old → IsIndex s old → IsIndex s new
+reserved : (s : Slab Transaction) (old new : List Handle) → new ≡ old → IsIndex s old →
+    IsIndex s new
 reserved s old new same is = subst (IsIndex s) (sym same) is
 
 pub list-requires-clause-fresh : goal.list-requires-clause-fresh
@@ -51,7 +52,7 @@ invariant_of-self-in_err-slot c =
         counted = stamped.counted;
         few = stamped.few;
       },
-      record { rising = index.rising; seats = index.seats },
+      record { rising = index.rising; handles = index.handles },
     )
 
 pub invariant_of-self-2 : goal.invariant_of-self-2

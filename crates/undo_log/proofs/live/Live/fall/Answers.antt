@@ -28,9 +28,9 @@ returns-in-Some-clause-live c =
     written_status slots c.self.invariant.0 c.in-Some.key was (record was { falling = true }) here
     refl
     ∙ ap (λ n. maps.insert (live_of slots.slots) n true) mine
-    ∙ sym (fallen_there (live_of slots.slots) c.args.number was.falling
-    (slot_live slots c.self.invariant.0 c.args.number c.in-Some.key was here mine))
-    ∙ ap (λ log. let l : Log = log in fallen l.live c.args.number) c.self.view_is
+    ∙ sym (fallen_there (live_of slots.slots) c.args.handle.number was.falling
+    (slot_live slots c.self.invariant.0 c.args.handle.number c.in-Some.key was here mine))
+    ∙ ap (λ log. let l : Log = log in fallen l.live c.args.handle.number) c.self.view_is
 
 pub returns-in-Some-clause-entries : goal.returns-in-Some-clause-entries
 returns-in-Some-clause-entries c =
@@ -48,7 +48,8 @@ returns-in-Some-clause-rooms c n live had =
 
 pub returns-in_default-clause-live : goal.returns-in_default-clause-live
 returns-in_default-clause-live c =
-    let none = absent_live c.self.inside.table.slots c.args.number c.in_default.ensures.none in
-    sym (fallen_absent c.args.self.now.live c.args.number
-    (ap (λ log. let l : Log = log in maps.get l.live c.args.number) (sym c.self.view_is) ∙
+    let none = absent_live c.self.inside.table.slots c.args.handle.number
+    c.in_default.ensures.none in
+    sym (fallen_absent c.args.self.now.live c.args.handle.number
+    (ap (λ log. let l : Log = log in maps.get l.live c.args.handle.number) (sym c.self.view_is) ∙
     none))

@@ -7,18 +7,20 @@ use Rattle.undo_log.proofs.live.Live.is_live.Goals as goal
 pub returns-in-Some : goal.returns-in-Some
 returns-in-Some c =
     let t = c.in-Some.ensures.found in (
-      λ _. ap (λ log. let l : Log = log in maps.contains_key l.live c.args.number)
+      λ _. ap (λ log. let l : Log = log in maps.contains_key l.live c.args.handle.number)
           (sym c.self.view_is)
-          ∙ ap is_some (slot_live c.self.inside.table.slots c.self.invariant.0 c.args.number
+          ∙ ap is_some (slot_live c.self.inside.table.slots c.self.invariant.0 c.args.handle.number
           c.in-Some.field-0 t.0 t.1 t.2),
       λ _. refl,
     )
 
 pub returns-in_default : goal.returns-in_default
 returns-in_default c =
-    let none = absent_live c.self.inside.table.slots c.args.number c.in_default.ensures.none in (
+    let none = absent_live c.self.inside.table.slots c.args.handle.number
+    c.in_default.ensures.none in (
       λ no. cc,
       λ live. sym (ap is_some none) ∙
-          ap (λ log. let l : Log = log in maps.contains_key l.live c.args.number) c.self.view_is ∙
+          ap (λ log. let l : Log = log in maps.contains_key l.live c.args.handle.number)
+          c.self.view_is ∙
           live,
     )

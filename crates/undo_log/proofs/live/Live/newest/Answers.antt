@@ -11,9 +11,9 @@ returns-clause-found c =
     let place = c.in_ok-place.ensures.found in
     let asked = ap (λ v. v.entry) c.index-entries-place.is ∙ c.in-Asked.is in
     let es = c.args.self.now.entries in
-    subst (λ l. HasNewestCall c.args.number es (event_of l))
+    subst (λ l. HasNewestCall c.args.handle.number es (event_of l))
     (newest_logged ss i s c.index-entries-place.is place c.in-Asked.logged asked)
-    (newest_of_all c.args.number es ss i place c.entries_of-entries.ensures)
+    (newest_of_all c.args.handle.number es ss i place c.entries_of-entries.ensures)
 
 pub unreachable-requires : goal.unreachable-requires
 unreachable-requires c =

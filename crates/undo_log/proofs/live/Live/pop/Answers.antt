@@ -17,8 +17,10 @@ use Rattle.undo_log.proofs.live.Live.pop.Goals as goal
 pub returns-in_err-key-clause-none : goal.returns-in_err-key-clause-none
 returns-in_err-key-clause-none c =
     rw c.from_residual.ensures
-    (ap (λ log. let l : Log = log in calls_of (own c.args.number l.entries)) (sym c.self.view_is)
-    ∙ ap calls_of (own_none c.self.inside.table.slots c.args.number c.in_err-key.ensures.none))
+    (ap (λ log. let l : Log = log in calls_of (own c.args.handle.number l.entries))
+    (sym c.self.view_is)
+    ∙ ap calls_of (own_none c.self.inside.table.slots c.args.handle.number
+    c.in_err-key.ensures.none))
 
 pub returns-in_err-place-clause-none : goal.returns-in_err-place-clause-none
 returns-in_err-place-clause-none c =
@@ -26,8 +28,10 @@ returns-in_err-place-clause-none c =
     let here = c.index.ensures in
     let mine = ap (λ u. u.number) (same_value c.index.result.now t.0 (sym here ∙ t.1)) ∙ t.2 in
     rw c.from_residual-in_err-place.ensures
-    (ap (λ log. let l : Log = log in calls_of (own c.args.number l.entries)) (sym c.self.view_is)
-    ∙ ap calls_of (sym (own_slot c.self.inside.table.slots c.self.invariant.1.each c.args.number
+    (ap (λ log. let l : Log = log in calls_of (own c.args.handle.number l.entries))
+    (sym c.self.view_is)
+    ∙ ap calls_of (sym (own_slot c.self.inside.table.slots c.self.invariant.1.each
+    c.args.handle.number
     c.in_ok-key.key c.index.result.now here mine))
     ∙ ap (λ ss. calls_of (map stamped_entry ss)) (sym c.deref.ensures.value)
     ∙ c.in_err-place.ensures.none)
@@ -82,7 +86,7 @@ returns-clause-found c =
     let logged = newest_logged was.entries.items c.in_ok-place.place c.remove-entry.result
     c.remove-entry.ensures.value (place c) c.in-Asked.logged c.in-Asked.is in
     subst (λ log. let l : Log = log in
-    IsNewestCall c.args.number l.entries (event_of c.in-Asked.logged) es) c.self.view_is
+    IsNewestCall c.args.handle.number l.entries (event_of c.in-Asked.logged) es) c.self.view_is
     (subst (λ n. IsNewestCall n (told (merged old.slots)) (event_of c.in-Asked.logged) es) mine
     (subst (λ l. IsNewestCall was.number (told (merged old.slots)) (event_of l) es) logged newest))
 

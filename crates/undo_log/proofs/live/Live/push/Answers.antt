@@ -15,9 +15,10 @@ use Rattle.undo_log.proofs.live.Live.push.Goals as goal
 
 pub unreachable-requires : goal.unreachable-requires
 unreachable-requires c =
-    let absent = absent_live c.self.inside.table.slots c.args.number c.in_default.ensures.none in
+    let absent = absent_live c.self.inside.table.slots c.args.handle.number
+    c.in_default.ensures.none in
     let no = sym (ap is_some absent) ∙
-    subst (λ log. IsLive log c.args.number) (sym c.self.view_is) c.requires.live in
+    subst (λ log. IsLive log c.args.handle.number) (sym c.self.view_is) c.requires.live in
     cc
 
 -- the slot of a transaction with room has it, and there is a stamp
@@ -32,7 +33,7 @@ room_of log s next n key t u once there found number had rooms =
 pub push_reserved-requires : goal.push_reserved-requires
 push_reserved-requires c =
     let found = c.in-Some.ensures.found in
-    (room_of c.args.self.now c.self.inside.table.slots c.self.inside.next c.args.number
+    (room_of c.args.self.now c.self.inside.table.slots c.self.inside.next c.args.handle.number
     c.in-Some.key
     c.index_mut.result.now found.0 c.self.invariant.0 c.index_mut.ensures.value found.1 found.2
     c.requires.room (ap (λ log. let l : Log = log in l.rooms) c.self.view_is)).1
@@ -40,7 +41,8 @@ push_reserved-requires c =
 pub overflow_add-self : goal.overflow_add-self
 overflow_add-self c =
     let found = c.in-Some.ensures.found in
-    let below = (room_of c.args.self.now c.self.inside.table.slots c.self.inside.next c.args.number
+    let below = (room_of c.args.self.now c.self.inside.table.slots c.self.inside.next
+    c.args.handle.number
     c.in-Some.key c.index_mut.result.now found.0 c.self.invariant.0 c.index_mut.ensures.value
     found.1 found.2 c.requires.room (ap (λ log. let l : Log = log in l.rooms) c.self.view_is)).0 in
     omega arith
@@ -48,7 +50,8 @@ overflow_add-self c =
 pub overflow_add-self-2 : goal.overflow_add-self-2
 overflow_add-self-2 c =
     let found = c.in-Some.ensures.found in
-    let below = (room_of c.args.self.now c.self.inside.table.slots c.self.inside.next c.args.number
+    let below = (room_of c.args.self.now c.self.inside.table.slots c.self.inside.next
+    c.args.handle.number
     c.in-Some.key c.index_mut.result.now found.0 c.self.invariant.0 c.index_mut.ensures.value
     found.1 found.2 c.requires.room (ap (λ log. let l : Log = log in l.rooms) c.self.view_is)).0 in
     let few = c.self.invariant.1.few in
@@ -79,7 +82,7 @@ returns-clause-entries c =
     next c.self.inside.count c.self.invariant.1 c.args.entry c.push_reserved.ensures.items)
     ∙ map-append (λ m. m.1) all ((next, (was.number, e)) ∷ [])
     ∙ ap (λ n. told all ++ (n, e) ∷ []) mine
-    ∙ ap (λ log. let l : Log = log in l.entries ++ (c.args.number, e) ∷ []) c.self.view_is
+    ∙ ap (λ log. let l : Log = log in l.entries ++ (c.args.handle.number, e) ∷ []) c.self.view_is
 
 pub returns-clause-live : goal.returns-clause-live
 returns-clause-live c =

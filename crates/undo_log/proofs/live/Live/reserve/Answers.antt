@@ -6,7 +6,7 @@ use Rattle.slab.proofs.SlabLemmas.{Updates-with_value}
 use Rattle.undo_log.specs.declared.live.Transaction.{Transaction}
 use Rattle.undo_log.specs.Logs.{Log, HasRoom, IsLive, Lives, EachOnce, live_of, rooms_of}
 use Rattle.undo_log.specs.Stamps.{merged, AreStamped}
-use Rattle.undo_log.specs.declared.live.Seat.{Seat}
+use Rattle.undo_log.specs.declared.live.Handle.{Handle}
 use Rattle.undo_log.specs.Index.{IsIndex}
 use Rattle.undo_log.proofs.Slots.{Fits, same_value, same_rooms, room_given, room_taken}
 use Rattle.undo_log.proofs.Slots.{room_here, absent_live}
@@ -18,8 +18,8 @@ use Rattle.undo_log.proofs.live.Live.reserve.Goals as goal
 
 pub returns-then-self-clause-succeeds : goal.returns-then-self-clause-succeeds
 returns-then-self-clause-succeeds c had =
-    let room = room_taken c.self.inside.next c.self.inside.table.slots c.args.number
-    (subst (λ log. HasRoom log c.args.number) (sym c.self.view_is) had) in
+    let room = room_taken c.self.inside.next c.self.inside.table.slots c.args.handle.number
+    (subst (λ log. HasRoom log c.args.handle.number) (sym c.self.view_is) had) in
     let below = room.0 in
     let full = c.if-self.true in
     absurd (omega arith)
@@ -32,7 +32,7 @@ module _ (old : Slab Transaction) (once : EachOnce old) (next count : ℕ)
   abbrev new : Slab Transaction
   new = with_value old key now
 
-  invariant : (index : List Seat) → IsIndex old index →
+  invariant : (index : List Handle) → IsIndex old index →
       EachOnce new × AreStamped new next count × IsIndex new index
   invariant index is = (
     written_once old once key was now there number,
@@ -96,9 +96,9 @@ returns-in_err-reserve-clause-succeeds c had =
     let mine = ap (λ v. v.number) (same_value c.index_mut.result.now found.0
     (sym c.index_mut.ensures.value ∙ found.1)) ∙ found.2 in
     let room = room_here c.self.inside.next c.self.inside.table.slots c.self.invariant.0
-    c.args.number
+    c.args.handle.number
     c.in-Some.key c.index_mut.result.now c.index_mut.ensures.value mine
-    (subst (λ log. HasRoom log c.args.number) (sym c.self.view_is) had) in
+    (subst (λ log. HasRoom log c.args.handle.number) (sym c.self.view_is) had) in
     let fits = room.1 in
     let full = c.in_err-reserve.ensures.full in
     absurd (omega arith)
@@ -132,7 +132,7 @@ returns-in_ok-reserve-clause-room c lives =
     let stamp = c.if-self.false in
     let range = c.self.ranges in
     room_given c.self.inside.next (with_value c.self.inside.table.slots c.in-Some.key now)
-    c.args.number
+    c.args.handle.number
     c.in-Some.key now (omega arith) put.changed mine (omega arith)
 
 pub returns-in_ok-reserve-clause-rooms : goal.returns-in_ok-reserve-clause-rooms
@@ -163,7 +163,8 @@ returns-in_ok-reserve-clause-entries c =
 
 pub returns-in_default-clause-room : goal.returns-in_default-clause-room
 returns-in_default-clause-room c lives =
-    let absent = absent_live c.self.inside.table.slots c.args.number c.in_default.ensures.none in
+    let absent = absent_live c.self.inside.table.slots c.args.handle.number
+    c.in_default.ensures.none in
     let no = sym (ap is_some absent) ∙
-    subst (λ log. IsLive log c.args.number) (sym c.self.view_is) lives in
+    subst (λ log. IsLive log c.args.handle.number) (sym c.self.view_is) lives in
     cc
