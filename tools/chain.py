@@ -1,14 +1,16 @@
 #!/usr/bin/env python3
 """chain.py JOBS [CRATE..]: `rt check` in one crate after another, or in those that are named, each once those below it stand.
 
-So many run side by side. A library is built as soon as it is proved, so that crates above it share it. A line tells of each
-crate whether it is proved, and how long it took; what a check printed goes into out/chain.log of the crate. Crates above one
-that is not proved are skipped. It has no quick pass over all crates, as `rt all` has. It gives no verdict: `rt ci` does.
+So many functions are proved side by side: a crate that is alone has all JOBS, else they share them. A library is built as soon as
+it is proved, so that crates above it share it. A line tells of each crate whether it is proved, how long it took and how many
+seconds of processors; what a check printed goes into out/chain.log of the crate. A crate that is not proved is tried again once
+somebody makes the file out/again in it; the run ends where nothing is left but crates above such ones and nobody makes it within
+the seconds of $CHAIN_WAITS (none without it). It has no quick pass over all crates, as `rt all` has. It gives no verdict: `rt ci`
+does.
 """
 import os
 import subprocess
 import sys
-import threading
 import time
 
 TOP = os.path.dirname(os.path.dirname(os.path.abspath(__file__)))
@@ -22,82 +24,97 @@ def needs_of_all():
     return {name.strip(): [below for below in text.split() if below in names] for name, text in rows}
 
 
-def run(verb, folder, log):
-    """Runs a command of rt in a crate's folder."""
-    words = [sys.executable, os.path.join(TOP, 'tools', 'remembering_rt.py'), verb]
-    subprocess.run(words, cwd=folder, stdout=log, stderr=log, env={**os.environ, 'RT_JOBS': '2'}, check=False)
+def path_in(crate, *names):
+    return os.path.join(TOP, 'crates', crate, *names)
 
 
-def check(crate):
-    """Checks a crate, and says whether it is proved."""
-    folder = os.path.join(TOP, 'crates', crate)
-    os.makedirs(os.path.join(folder, 'out'), exist_ok=True)
-    path = os.path.join(folder, 'out', 'chain.log')
-    with open(path, 'w', encoding='utf-8') as log:
-        run('check', folder, log)
-    with open(path, encoding='utf-8') as log:
-        is_proved = 'logic=proved' in log.read()
-    if is_proved and os.path.isfile(os.path.join(folder, 'src', 'lib.rt')):
-        with open(path, 'a', encoding='utf-8') as log:
-            run('lib', folder, log)
-    return is_proved
+def is_library(crate):
+    return os.path.isfile(path_in(crate, 'src', 'lib.rt'))
+
+
+def is_proved(crate):
+    """What the last verdict in the log of a crate's check says: those before it are of crates below."""
+    with open(path_in(crate, 'out', 'chain.log'), encoding='utf-8', errors='replace') as log:
+        verdicts = [line for line in log if line.startswith('logic=') and 'functions=' in line]
+    return bool(verdicts) and verdicts[-1].startswith('logic=proved')
+
+
+def start(crate, jobs):
+    """Begins the check of a crate, and the build of its library behind it."""
+    os.makedirs(path_in(crate, 'out'), exist_ok=True)
+    if os.path.exists(path_in(crate, 'out', 'again')):
+        os.remove(path_in(crate, 'out', 'again'))
+    rt = f'{sys.executable} {os.path.join(TOP, "tools", "remembering_rt.py")}'
+    words = f'{rt} check --jobs {jobs}' + (f' && {rt} lib' if is_library(crate) else '')
+    with open(path_in(crate, 'out', 'chain.log'), 'w', encoding='utf-8') as log:
+        return subprocess.Popen(['bash', '-c', words], cwd=path_in(crate), stdout=log, stderr=log, stdin=subprocess.DEVNULL)
 
 
 class Chain:
-    def __init__(self, needs, wanted):
-        self.needs, self.left = needs, [crate for crate in needs if crate in wanted]
-        self.proved, self.failed, self.running = set(), set(), set()
-        self.change = threading.Condition()
+    def __init__(self, jobs, needs, wanted):
+        self.jobs, self.needs = jobs, needs
+        self.left = [crate for crate in needs if crate in wanted]
+        self.running, self.failed = {}, []
 
     def tell(self, crate, text):
         print(time.strftime('%H:%M:%S'), crate, text, flush=True)
 
-    def skip(self):
-        """Skips what stands on a crate that is not proved."""
-        for crate in list(self.left):
-            if self.failed.intersection(self.needs[crate]):
-                self.left.remove(crate)
-                self.failed.add(crate)
-                self.tell(crate, 'skipped')
+    def ready(self):
+        """The crates whose libraries all stand, with none of them left or at work."""
+        missing = set(self.left) | set(self.failed) | {crate for crate, _, _ in self.running.values()}
+        return [crate for crate in self.left if not missing.intersection(self.needs[crate])]
 
-    def next(self):
-        """The next crate to check; none where none is left."""
-        with self.change:
-            while True:
-                self.skip()
-                waiting = set(self.left) | self.running
-                for crate in self.left:
-                    if not waiting.intersection(self.needs[crate]):
-                        self.left.remove(crate)
-                        self.running.add(crate)
-                        return crate
-                if not self.left:
-                    return None
-                self.change.wait()
+    def free(self):
+        return self.jobs - sum(jobs for _, _, jobs in self.running.values())
 
-    def work(self):
-        while True:
-            crate = self.next()
-            if crate is None:
+    def start_all(self):
+        """Begins what can be begun: what is ready shares the jobs that are free."""
+        ready = self.ready()
+        for at, crate in enumerate(ready):
+            free = self.free()
+            if free <= 0:
                 return
-            start = time.time()
-            is_proved = check(crate)
-            with self.change:
-                self.running.remove(crate)
-                (self.proved if is_proved else self.failed).add(crate)
-                self.tell(crate, f'{"proved" if is_proved else "NOT PROVED"}, {time.time() - start:.0f} s')
-                self.change.notify_all()
+            jobs = max(1, free // (len(ready) - at))
+            self.left.remove(crate)
+            self.running[start(crate, jobs).pid] = crate, time.time(), jobs
+
+    def end_one(self):
+        """Waits a second at most for a check that ends, and says what it came to."""
+        pid, status, usage = os.wait4(-1, os.WNOHANG)
+        if pid not in self.running:
+            return time.sleep(1)
+        crate, began, jobs = self.running.pop(pid)
+        proved = os.waitstatus_to_exitcode(status) == 0 and is_proved(crate)
+        if not proved:
+            self.failed.append(crate)
+        took = f'{time.time() - began:.0f} s with {jobs}, {usage.ru_utime + usage.ru_stime:.0f} s of processors'
+        self.tell(crate, f'{"proved" if proved else "NOT PROVED"}, {took}')
+
+    def try_again(self):
+        """Takes up again what somebody asks for."""
+        for crate in [crate for crate in self.failed if os.path.exists(path_in(crate, 'out', 'again'))]:
+            self.failed.remove(crate)
+            self.left.insert(0, crate)
+
+    def run(self, patience):
+        waited = 0
+        while self.running or self.ready() or (self.failed and waited < patience):
+            self.try_again()
+            self.start_all()
+            if self.running:
+                self.end_one()
+                waited = 0
+            else:
+                time.sleep(1)
+                waited += 1
+        return not self.failed and not self.left
 
 
 def main():
     needs = needs_of_all()
-    chain = Chain(needs, sys.argv[2:] or needs)
-    threads = [threading.Thread(target=chain.work) for _ in range(int(sys.argv[1]))]
-    for thread in threads:
-        thread.start()
-    for thread in threads:
-        thread.join()
-    sys.exit(1 if chain.failed else 0)
+    chain = Chain(int(sys.argv[1]), needs, sys.argv[2:] or list(needs))
+    return 0 if chain.run(int(os.environ.get('CHAIN_WAITS', '0'))) else 1
 
 
-main()
+if __name__ == '__main__':
+    sys.exit(main())

@@ -2,17 +2,15 @@
 """counts.py [PROGRAM]: counts what says how large the code is: crates, lines, edges of crates.txt, and the functions that a step enters.
 
 An edge is for contracts alone where no line of the crate's code names the library. Paths are those from boost_main down, by all edges
-and by those of code. With the program that the toolchain builds for a try (`tools/build.py unproved`), and gdb, it counts the
-functions of our crates that are entered: by one more transaction of a script that is played (begin, call, commit, turn), and by an
-opening with a transaction to undo. Each is the difference of two runs, one with it and one without. Under gdb threads that wait for one
-another come to no end, so a client of `listen` is not counted.
+and by those of code. With the proved program (crates/boost_main/out), and valgrind, it counts how often functions of our crates are
+entered: by one more transaction of a script that is played (begin, call, commit, turn), by one more line of a client of `listen` until
+it is kept, and by an opening with a transaction to undo. Each is the difference of two runs, one with it and one without.
 """
 import collections
 import functools
 import glob
 import os
 import re
-import shlex
 import subprocess
 import sys
 import tempfile
@@ -71,67 +69,56 @@ def paths(named, found):
     return count('boost_main')
 
 
-def entered(program, named, words):
-    """How many functions of our crates a run of the program enters."""
-    symbols = subprocess.run(['nm', program], capture_output=True, text=True, check=True).stdout.splitlines()
-    ours = re.compile(rf'^(\w+) [tT] ((?:{"|".join(named)})::.*)$')
-    places = [found[1] for found in map(ours.match, symbols) if found]
+def called(program, named, words, lines):
+    """How often a run of the program on these lines of input enters each function of our crates."""
+    ours = re.compile(rf'(?:{"|".join(named)})::')
     with tempfile.TemporaryDirectory() as room:
-        script, told = os.path.join(room, 'script.py'), os.path.join(room, 'told')
+        counted, bare = os.path.join(room, 'counted'), os.path.join(room, 'program')
+        subprocess.run(['objcopy', '--strip-debug', program, bare], check=True)
+        subprocess.run(['valgrind', '--tool=callgrind', f'--callgrind-out-file={counted}', bare, *words], input=lines, text=True,
+                       capture_output=True, check=True, timeout=600)
+        names, found, callee = {}, collections.Counter(), ''
+        with open(counted, encoding='utf-8', errors='replace') as file:
+            for line in file:
+                named_so = re.match(r'(c?fn)=\((\d+)\)(?: (.*))?$', line)
+                if named_so:
+                    names.setdefault(named_so[2], named_so[3])
+                    callee = names[named_so[2]]
+                elif line.startswith('calls=') and ours.match(callee):
+                    found[callee] += int(line[len('calls='):].split()[0])
+    return found
+
+
+def on_new_disk(program, named, before, words, lines):
+    """The same of a command on a new disk, on which a script was played."""
+    with tempfile.TemporaryDirectory() as room:
+        disk, script = os.path.join(room, 'disk'), os.path.join(room, 'script')
+        subprocess.run([program, 'format', disk, '--area', '1M'], check=True)
         with open(script, 'w', encoding='utf-8') as file:
-            file.write(f'''
-import gdb
-count = 0
-class Entered(gdb.Breakpoint):
-    def stop(self):
-        global count
-        count += 1
-        return False
-gdb.execute('set pagination off')
-gdb.execute('set breakpoint pending off')
-gdb.execute({'set args %s > /dev/null' % shlex.join(words)!r})
-gdb.execute('starti')
-base = int(gdb.execute('info proc mappings', to_string=True).split({os.path.basename(program)!r})[0].splitlines()[-1].split()[0], 16)
-for place in {places!r}:
-    Entered('*%d' % (int(place, 16) + (base if {is_moved(program)!r} else 0)))
-gdb.execute('continue')
-open({told!r}, 'w').write(str(count))
-gdb.execute('quit')
-''')
-        subprocess.run(['gdb', '-q', '-batch', '-x', script, program], capture_output=True, check=True, timeout=600)
-        with open(told, encoding='utf-8') as file:
-            return int(file.read())
+            file.write(before)
+        subprocess.run([program, 'play', disk, script], check=True, stdout=subprocess.DEVNULL)
+        return called(program, named, [words[0], disk, *words[1:]], lines)
 
 
-def is_moved(program):
-    """Whether the program is loaded at another place than its symbols tell."""
-    return 'DYN' in subprocess.run(['readelf', '-h', program], capture_output=True, text=True, check=True).stdout
-
-
-def difference(program, named, one, two):
-    """How many more functions the play of the second script enters than that of the first, each on a store of its own."""
-    counts = []
-    for before, text in (one, two):
-        with tempfile.TemporaryDirectory() as room:
-            disk, script = os.path.join(room, 'disk'), os.path.join(room, 'script')
-            subprocess.run([program, 'format', disk, '--area', '1M'], check=True)
-            with open(script, 'w', encoding='utf-8') as file:
-                file.write(before)
-            subprocess.run([program, 'play', disk, script], check=True, stdout=subprocess.DEVNULL)
-            with open(script, 'w', encoding='utf-8') as file:
-                file.write(text)
-            counts.append(entered(program, named, ['play', disk, script]))
-    return counts[1] - counts[0]
+def tell(what, fewer, more, times):
+    """Tells what so many steps more enter, each."""
+    gone = {name: (more[name] - fewer[name]) / times for name in more if more[name] > fewer[name]}
+    print(f'entered by {what}: {sum(gone.values()):.0f}, of them different: {len(gone)}')
 
 
 def walks(program, named):
     made = 'c1 make counter hits\nturn\n'
     bump = 'c1 begin\nc1 call hits bump 1\nc1 commit\nturn\n'
-    print('entered by a transaction that is played:',
-          difference(program, named, (made, bump), (made, bump * 2)))
+    kept = 'c1 keep hits bump 1\n'
+    def plays(count):
+        return on_new_disk(program, named, made, ['play', '/dev/stdin'], bump * count)
+    def listens(count):
+        return on_new_disk(program, named, made, ['listen'], kept * (count + 3) + 'end\n')
+    tell('a transaction that is played', plays(1), plays(2), 1)
+    tell('a line of a client until it is kept', listens(0), listens(20), 20)
     left = made + 'c1 begin\n' + 'c1 call hits bump 1\n' * 6 + 'turn\n'
-    print('entered by an opening with 8 records, and a transaction to undo, more than by one with a make:',
-          difference(program, named, (made, ''), (left, '')))
+    tell('an opening with 8 records, and a transaction to undo, more than by one with a make',
+         on_new_disk(program, named, made, ['show'], ''), on_new_disk(program, named, left, ['show'], ''), 1)
 
 
 def main():

@@ -33,7 +33,8 @@ MADE = re.compile(r'/out\b|^docs/DEFINITIONS\.md$|^crates/mine$')
 def names_of(crate):
     """What a crate declares or hands on, and the names of its files and edits, each with its folder and without."""
     folder, names = os.path.join(TOP, 'crates', crate), set()
-    for path in glob.glob(os.path.join(folder, '**', '*.*'), recursive=True):
+    for path in (path for part in os.listdir(folder) if part != 'out'
+                 for path in glob.glob(os.path.join(folder, part, '**', '*.*'), recursive=True)):
         stem, kind = os.path.splitext(os.path.relpath(path, folder))
         parts = stem.split(os.sep)
         for at in range(len(parts)):

@@ -634,6 +634,7 @@ def how_the_store_stands():
             store.make(kind, name)
         begun = store.status()
         assert (begun.live, begun.wear, [each.items for each in begun.collections]) == (0, 0, [1, 0, 0]), begun
+        assert (begun.commits, begun.aborts, begun.checkpoints, begun.sleeping, begun.busy) == (3, 0, 0, 0, {}), begun
         with other.transaction(keep=False) as t:
             t.call('m', 'put', 1, b'held')
             t.call('jobs', 'add', 1, 1)
@@ -644,15 +645,17 @@ def how_the_store_stands():
             subprocess.run(['cc', '-x', 'c', '-o', c_program, '-I', os.path.join(TOP, 'clients/c'), '-',
                             os.path.join(TOP, 'clients/c/boost.c')], input=TELLS_STATUS, text=True, check=True)
             assert said(c_program, place.door) == '1 1 -1\n'
+            assert store.session().lines(['do m get 1']) == ['refused 9 Busy 1']
             t.call('jobs', 'take')
         other.wait()
         time.sleep(1)                              # the committer looks once more, and sleeps
         kept = store.status()
         assert (kept.live, kept.waiting, [each.items for each in kept.collections]) == (0, 0, [1, 1, 0]), kept
+        assert (kept.commits, kept.aborts, kept.busy) == (5, 1, {'map': 1}) and kept.blocks > begun.blocks, kept
         assert kept.used > begun.used
     place.end()
-    # (what the next image takes is told too large while a server runs, and to the byte by `stat`)
-    kept = kept._replace(checkpoint=0)
+    # (what the next image takes is told too large while a server runs, and to the byte by `stat`; and each server counts anew)
+    kept = kept._replace(checkpoint=0, commits=0, aborts=0, blocks=0, busy={})
     assert kept == stat(place.disk)._replace(checkpoint=0), (kept, stat(place.disk))
     place.serve()
     with boost.join(place.door) as store:

@@ -89,7 +89,7 @@ def live_bumps(tag):
 
 
 def live_laters(kind, code):
-    """Live transactions that put off a bump of a counter, or a filling of a stock, by 1."""
+    """Live transactions that deferred a bump of a counter, or a filling of a stock, by 1."""
     for found in live(1024, [named(NAME, kind, b"n"), item(b"\0" * 16)]):
         yield found if isinstance(found, bytes) else bytes([LIVE_LATER]) + u64(found[1]) + bytes([0, code]) + u64(1)
 

@@ -142,7 +142,7 @@ def the_page_tells_what_status_tells():
     rows = {row[0]: row[1:] for row in read.rows if row}
     assert rows['live transactions'][:2] == ['1', 'of 64'] and rows['in use of the area, bytes'][1] == 'of 1,048,576', rows
     assert ['set', 'jobs', '99'] in read.rows and ['counter', 'hits', '1'] in read.rows, read.rows
-    assert read.tags['svg'] == 4 and read.tags['polyline'] >= 3 and 'script' not in read.tags, read.tags
+    assert read.tags['svg'] == 5 and read.tags['polyline'] >= 3 and 'script' not in read.tags, read.tags
     place.close()
     return f'{len(told)} metrics, {len(read.rows)} rows'
 
@@ -198,11 +198,11 @@ def a_device_that_stands_still():
 
 def parts_that_nobody_knows():
     """An answer of a server to come is shown as it stands, and one with harm in it does none."""
-    answer = ('format 3; area 100; used 90; fsyncs 17; lag 0.5; clients 3 of 64; live 2; place 12; '
-              'collection map m 3 55; collection set <b> 4; failed')
+    answer = ('format 3; area 100; used 90; fsyncs 17; lag 0.5; clients 3 of 64; live 2; commits 12; '
+              'busy map 5; collection map m 3 55; collection set <b> 4; failed')
     watch = pages.Watch('/x<script>', 5)
     watch.state, watch.why = pages.state_of(answer), ''
-    watch.samples.extend([pages.Sample(time.time() - 5, {'place': 2}), pages.Sample(time.time(), watch.state.numbers)])
+    watch.samples.extend([pages.Sample(time.time() - 5, {'commits': 2}), pages.Sample(time.time(), watch.state.numbers)])
     seen = watch.seen()
     read = Reader(pages.page_of(seen))
     assert ['fsyncs', '17', '', ''] in read.rows and ['lag', '0.5', '', ''] in read.rows and ['clients 3 of 64', '', '', ''] in read.rows
@@ -210,6 +210,7 @@ def parts_that_nobody_knows():
     assert 'Keeping has failed' in ' '.join(read.words) and read.tags['svg'] == 5
     told = pages.metrics_of(seen)
     assert 'boost_fsyncs 17\n' in told and 'boost_lag 0.5\n' in told and 'boost_failed 1\n' in told and 'boost_commits_total 12\n' in told
+    assert 'boost_busy_total{kind="map"} 5\n' in told and ['calls on a map that were refused Busy', '5', '', ''] in read.rows
     return f'{len(read.rows)} rows'
 
 

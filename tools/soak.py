@@ -172,7 +172,7 @@ def transcripts(out):
 
 
 class Transaction:
-    """The calls of an open transaction that were answered, and what it put off."""
+    """The calls of an open transaction that were answered, and what it deferred."""
 
     def __init__(self):
         self.calls, self.laters = [], []

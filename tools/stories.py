@@ -6,7 +6,7 @@
     tools/stories.py told     prints what the program must print of the stories
 
 The model knows what a store means, and nothing of how the program does it: seven kinds of collections with a row for
-each call and reply, needs that conflict, transactions that are live, what they put off, places, and which blocks a turn
+each call and reply, needs that conflict, transactions that are live, what they deferred, places, and which blocks a turn
 keeps. What is committed is run whole, one transaction after another, on a store beside, which has to give the same
 replies: what that holds after each place is what a stopped store may show. Only the standard library is used, and every
 choice that looks like chance comes from the seed of the story.
@@ -194,7 +194,7 @@ def conflict(one, other):
 
 
 class Transaction:
-    """A live transaction: its calls with their replies, what it put off, and what it needs, each by collection."""
+    """A live transaction: its calls with their replies, what it deferred, and what it needs, each by collection."""
 
     def __init__(self):
         self.calls = []

@@ -28,11 +28,13 @@ TESTS = {
                           'tried_once_in_c'],
     'listeners': ['tools/listeners.py', BOOST, '20'],
     'the script boost': ['tools/script.py'],
+    'the program on files': ['tools/program_cases.py', PROGRAM],
     'closed streams': ['tools/closed_streams.py', PROGRAM],
     'paths and scripts that mean harm': ['tools/attacks.py', PROGRAM],
     'the door': ['tools/door_attacks.py', PROGRAM],
     'who waits for work': ['tools/waiting.py', PROGRAM],
     'a full store': ['tools/full_store.py', PROGRAM],
+    'refused syncs and memory': ['tools/refused.py', PROGRAM],
     'what takes long': ['tools/progress.py', PROGRAM],
     'the client in Python': ['-m', 'unittest', 'discover', '-s', 'clients/python/tests'],
     'attacks on the client in Python': ['tools/client_attacks.py', BOOST],
@@ -51,8 +53,8 @@ TESTS = {
 
 # The gate begins with these.
 GATE = ('definitions', 'crates that pages name', 'the walk through a disk', 'the commands of the pages', 'the examples in Python',
-        'the examples in C', 'the script boost', 'closed streams', 'a full store', 'the client in Python', 'the client in C',
-        'the programs at the gate')
+        'the examples in C', 'the script boost', 'the program on files', 'closed streams', 'a full store', 'refused syncs and memory',
+        'the client in Python', 'the client in C', 'the programs at the gate')
 
 # These compile something.
 WITH_CC = ('the client in C', 'the examples in C', 'what takes long', 'the gate', 'the programs at the gate', 'all attacks at once')

@@ -2,7 +2,8 @@
 import itertools
 import operator
 import re
-from typing import Any, Dict, Iterator, List, NamedTuple, Sequence, Union
+from types import MappingProxyType
+from typing import Any, Dict, Iterator, List, Mapping, NamedTuple, Sequence, Union
 
 from .errors import Busy, Error, Idle, Lost, Misunderstood, Refused
 
@@ -32,7 +33,8 @@ class Collection(NamedTuple):
 class Status(NamedTuple):
     """How a store stands, in the words of docs/LISTEN.md; the collections in the order of making. `failed` says that keeping has
     failed, `full` how full the store is, in hundredths, and `writing_since` the second since 1970 at which the write or sync of the
-    disk began that goes on, 0 where none does."""
+    disk began that goes on, 0 where none does. `commits`, `aborts`, `blocks` and `checkpoints` count from the start of the server on, and
+    so does `busy`, calls that were refused Busy by the kind of the collection; `sleeping` clients wait for work."""
     format: int
     area: int
     in_use: int
@@ -46,6 +48,12 @@ class Status(NamedTuple):
     checkpoint: int = 0
     full: int = 0
     writing_since: int = 0
+    commits: int = 0
+    aborts: int = 0
+    blocks: int = 0
+    checkpoints: int = 0
+    sleeping: int = 0
+    busy: Mapping[str, int] = MappingProxyType({})
 
 
 PASSING = {'Busy', 'TooManyLive'}
@@ -98,16 +106,19 @@ def value_of(answer: str, word: str, rest: str) -> Reply:
 
 def status_of(answer: str) -> Status:
     numbers: Dict[str, Any] = {}
+    busy: Dict[str, int] = {}
     collections: List[Collection] = []
     for part in answer.split('; '):
         name, *words = part.split()
         if name == 'collection':
             collections.append(Collection(words[0], words[1], int(words[2])))
+        elif name == 'busy':
+            busy[words[0]] = int(words[1])
         elif name == 'failed':
             numbers[name] = words != ['0']
         elif name in Status._fields:
             numbers[name] = int(words[0])
-    return Status(collections=collections, **numbers)
+    return Status(collections=collections, busy=busy, **numbers)
 
 
 def bytes_of(text: str) -> bytes:

@@ -38,10 +38,12 @@ Points = Sequence[Tuple[float, Optional[float]]]
 
 
 class State(NamedTuple):
-    """An answer to `status`: its numbers by name, its collections as their words, and its other parts as they stand."""
+    """An answer to `status`: its numbers by name, its collections as their words, its other parts as they stand, and how many calls
+    were refused Busy, by the kind of the collection."""
     numbers: Dict[str, Number]
     collections: List[List[str]]
     others: List[str]
+    busy: Dict[str, Number]
 
 
 def number_of(text: str) -> Optional[Number]:
@@ -56,12 +58,14 @@ def number_of(text: str) -> Optional[Number]:
 
 def state_of(answer: str) -> State:
     """Parses any answer to `status`, also one with parts that this program does not know."""
-    state = State({}, [], [])
+    state = State({}, [], [], {})
     for part in answer.split('; '):
         name, *words = part.split()
         number = number_of(words[0]) if len(words) == 1 else None
         if name == 'collection' and len(words) >= 3:
             state.collections.append(words)
+        elif name == 'busy' and len(words) == 2:
+            state.busy[words[0]] = number_of(words[1]) or 0
         elif number is not None:
             state.numbers[name] = number
         elif part == 'failed':
@@ -199,10 +203,10 @@ def plot_of(title: str, points: Points, now: float, least_top: float = 1.0) -> s
 
 
 def plots_of(seen: Seen) -> str:
-    """All plots. Commits a second are told by their places where the server tells these, and else transactions by their numbers."""
+    """All plots. A server of an older program counts no commits."""
     now, samples = time.time(), seen.samples
-    is_placed = any('place' in sample.numbers for sample in samples)
-    return (plot_of('commits a second', rates_of(samples, 'place'), now) if is_placed else '') + ''.join((
+    is_counted = any('commits' in sample.numbers for sample in samples)
+    return (plot_of('commits a second', rates_of(samples, 'commits'), now) if is_counted else '') + ''.join((
         plot_of('transactions a second, rolled back ones too', rates_of(samples, 'next'), now),
         plot_of('hundredths of the area in use', shares_of(samples, 'used', 'area'), now, 100.0),
         plot_of('records that wait for the disk', values_of(samples, 'waiting'), now),
@@ -242,6 +246,7 @@ def room_of(state: State) -> str:
                                         ('live', 'live transactions', CLIENTS), ('waiting', 'records that wait for the disk', RECORDS))
              if name in numbers]
     rows += [row(html.escape(MEANINGS.get(name, name)), number, '', '') for name, number in numbers.items() if name not in SHOWN]
+    rows += [row('calls on a %s that were refused Busy' % html.escape(kind), count, '', '') for kind, count in state.busy.items()]
     return ''.join(rows) + ''.join(row(html.escape(other), '', '', '') for other in state.others)
 
 
@@ -286,7 +291,11 @@ METRICS = {
     'live': ('boost_live_transactions', 'gauge', 'Transactions that have not ended, of 64.'),
     'waiting': ('boost_waiting_records', 'gauge', 'Records that wait for the disk, of 16384.'),
     'next': ('boost_transactions_total', 'counter', 'The number of the next transaction.'),
-    'place': ('boost_commits_total', 'counter', 'The place of the last commit.'),
+    'commits': ('boost_commits_total', 'counter', 'Transactions that committed since the server began, and collections that were made.'),
+    'aborts': ('boost_aborts_total', 'counter', 'Transactions that were taken back since the server began.'),
+    'blocks': ('boost_blocks_total', 'counter', 'Blocks that were handed to the disk, with two writes and two syncs each.'),
+    'checkpoints': ('boost_checkpoints_total', 'counter', 'Checkpoints since the server began.'),
+    'sleeping': ('boost_sleeping_clients', 'gauge', 'Clients that wait for work.'),
     'wear': ('boost_steps_total', 'counter', 'Steps of the life of the store.'),
 }
 
@@ -313,6 +322,8 @@ def metrics_of(seen: Seen) -> str:
                    ['boost_still_seconds %.1f' % (0 if still is None else seen.samples[-1].second - still)])
     if 'failed' not in seen.state.numbers:
         told += metric('boost_failed', 'gauge', 'The part failed of status.', ['boost_failed 0'])
+    busy = ['boost_busy_total{kind=%s} %s' % (label(kind), count) for kind, count in seen.state.busy.items()]
+    told += metric('boost_busy_total', 'counter', 'Calls that were refused Busy.', busy) if busy else ''
     items = ['boost_collection_items{kind=%s,name=%s} %s' % (label(kind), label(name), count)
              for kind, name, count, *_ in seen.state.collections if number_of(count) is not None]
     return told + (metric('boost_collection_items', 'gauge', 'How many items a collection holds.', items) if items else '')

@@ -88,9 +88,12 @@ class Answers(unittest.TestCase):
             self.assertEqual(reply_of(answer), value, answer)
 
     def test_status(self):
-        text = 'format 1; area 1048576; in_use 0; used 5123; live 1; waiting 3; next 12; wear 40; collection map m 3; new 7'
+        text = 'format 1; area 1048576; in_use 0; used 5123; live 1; waiting 3; next 12; wear 40; commits 9; '\
+            'sleeping 2; busy map 3; busy queue 1; collection map m 3; new 7'
         status = reply_of(text)
         self.assertEqual((status.area, status.wear, status.failed, status.collections), (1048576, 40, False, [('map', 'm', 3)]))
+        self.assertEqual((status.commits, status.aborts, status.sleeping, status.busy), (9, 0, 2, {'map': 3, 'queue': 1}))
+        self.assertEqual(reply_of('format 1; area 1; in_use 0; used 1; live 0; waiting 0; next 1; wear 0').busy, {})
         self.assertTrue(reply_of('failed; ' + text).failed)
         self.assertTrue(reply_of(text + '; failed').failed)
 

@@ -85,15 +85,16 @@ impl NeedTable {
     /// order, each of which leaves the table as it was: Busy with the least other owner of a need
     /// on the collection that conflicts, exactly where there is one; NoMemory, only where no room
     /// is reserved for the collection. It costs what `test`, `reserve` and `grant` do.
-    pub fn ask(&mut self, owner: u64, col: u8, need: Need) -> Result<(), Refusal>
-        ensures clear { OnOk result (IsClear self.old.holds owner col need) }
-        ensures held { OnOk result (IsAdded self.old.holds self.new.holds (hold owner col need)) }
-        ensures refused { IfErr result (IsAskRefusal self.old owner col need) }
+    pub fn ask(&mut self, owner: u64, collection: u8, need: Need) -> Result<(), Refusal>
+        ensures clear { OnOk result (IsClear self.old.holds owner collection need) }
+        ensures held { OnOk result (IsAdded self.old.holds self.new.holds
+            (hold owner collection need)) }
+        ensures refused { IfErr result (IsAskRefusal self.old owner collection need) }
         ensures unchanged { OnErr result (self.new ≡ self.old) }
     {
-        self.test(owner, col, &need)?;
-        self.reserve(col)?;
-        self.grant(owner, col, need);
+        self.test(owner, collection, &need)?;
+        self.reserve(collection)?;
+        self.grant(owner, collection, need);
         Ok(())
     }
 
@@ -102,17 +103,17 @@ impl NeedTable {
     /// it in its segment move, and a segment that is full is split. Then one halving for the list
     /// of the owner; where that is new, those of greater owners move. A hold that the owner has
     /// already is not kept twice.
-    pub fn grant(&mut self, owner: u64, col: u8, need: Need)
-        requires room { HasRoom self.old col }
-        requires clear { IsClear self.old.holds owner col need }
-        ensures held { IsAdded self.old.holds self.new.holds (hold owner col need) }
+    pub fn grant(&mut self, owner: u64, collection: u8, need: Need)
+        requires room { HasRoom self.old collection }
+        requires clear { IsClear self.old.holds owner collection need }
+        ensures held { IsAdded self.old.holds self.new.holds (hold owner collection need) }
     {
         let hold = Hold {
             owner,
-            at: col,
+            at: collection,
             need,
         };
-        if self.collections[usize::from(col)].add(hold) {
+        if self.collections[usize::from(collection)].add(hold) {
             self.owners.add(hold);
         }
     }
@@ -121,12 +122,12 @@ impl NeedTable {
     /// memory. Two halvings of the collection's segments, a look at the bounds of each between, and
     /// at the holds of those in which one may be in the way; one look in all where bounds of all
     /// its holds tell that none is.
-    pub fn test(&self, owner: u64, col: u8, need: &Need) -> Result<(), Refusal>
-        ensures clear { OnOk result (IsClear self.now.holds owner col need.now) }
-        ensures busy { IfErr result (IsBusyRefusal self.now.holds owner col need.now) }
+    pub fn test(&self, owner: u64, collection: u8, need: &Need) -> Result<(), Refusal>
+        ensures clear { OnOk result (IsClear self.now.holds owner collection need.now) }
+        ensures busy { IfErr result (IsBusyRefusal self.now.holds owner collection need.now) }
     {
-        match self.collections.get(usize::from(col)) {
-            Some(needs) => needs.test(owner, col, need),
+        match self.collections.get(usize::from(collection)) {
+            Some(needs) => needs.test(owner, collection, need),
             None => Ok(()),
         }
     }
@@ -138,15 +139,15 @@ impl NeedTable {
     /// hold took the last room of its owner's list, or the last spare list or place for one, it
     /// looks at each owner's list once more: what is full moves, and a list is made where none is
     /// spare.
-    pub fn reserve(&mut self, col: u8) -> Result<(), Refusal>
-        ensures room { OnOk result (HasRoom self.new col) }
+    pub fn reserve(&mut self, collection: u8) -> Result<(), Refusal>
+        ensures room { OnOk result (HasRoom self.new collection) }
         ensures rooms { KeepsRoom self.old self.new }
         ensures holds { self.new.holds ≡ self.old.holds }
         ensures refusal { IsOkUnless result Refusal.NoMemory }
-        ensures succeeds { HasRoom self.old col → IsOk result }
+        ensures succeeds { HasRoom self.old collection → IsOk result }
         ensures unchanged { OnErr result (self.new ≡ self.old) }
     {
-        let place = usize::from(col);
+        let place = usize::from(collection);
         reach(&mut self.collections, place)?;
         self.collections[place].reserve()?;
         self.owners.reserve()

@@ -4,17 +4,18 @@ use Rattle.std.proofs.Common.{refl, true, false}
 use Rattle.std.proofs.Common.{sym, subst, take, length, arith}
 use Rattle.std.proofs.lemmas.List.{take_all}
 use Rattle.std.specs.Prelude.{MatchResult, IfErr, IsErrOf}
-use Rattle.arguments.specs.declared.Task.{Task}
+use Rattle.boost.specs.declared.arguments.Task.{Task}
 use Rattle.calls.specs.Contents.{Collection}
 use Rattle.disk_model.specs.Disk.{ReadsOnly, IsAtRest, LeavesOnly, Rises}
 use Rattle.disk_model.specs.declared.disk.Disk.{Ghosts}
 use Rattle.disk_model.proofs.Walk.{started, weaker, and_then}
-use Rattle.repetition.specs.Journals.{StandsFor}
-use Rattle.repetition.specs.Reading.{IsSound}
+use Rattle.replay.specs.Journals.{StandsFor}
+use Rattle.replay.specs.Reading.{IsSound}
 use Rattle.calls.specs.Formats.{number_of}
 use Rattle.calls.specs.declared.format.Format.{Format}
 use Rattle.calls.specs.declared.refusal.Refusal.{Refusal}
-use Rattle.recovery.specs.Formats.{IsRoomAs, IsFormatAnswer, IsEmptyStore, IsMaking, IsFormatting}
+use Rattle.recovery.specs.Formatting.{IsRoomAs, IsFormatAnswer, IsEmptyStore, IsMaking}
+use Rattle.recovery.specs.Formatting.{IsFormatting}
 use Rattle.recovery.specs.Openings.{KeepsContent, IsOpenRefusal}
 use Rattle.recovery.specs.Refusals.{IsOpenedAtMost, OpeningLeaves, RefusalLeaves}
 use Rattle.world.specs.Moves.{Whole}
@@ -235,9 +236,9 @@ module _ {D : Type 0} (g : Ghosts D) (old : D) where
       (g.is_honest v.keeper.disk → StartsFrom g old w)
       → PlaysLines g ks w lines r ls v → MatchResult r (λ done. s ≡ Ok tt) (λ e. s ≡ Err f) →
       OnOk s (g.is_honest v.keeper.disk → ArePlayedOn g lines old v.keeper.disk)
-  lines_played w v ks ls lines (Ok done) s f new starts carried said =
+  lines_played w v ks ls lines (Ok done) s f new starts carried response =
       subst (λ q. OnOk q (g.is_honest v.keeper.disk → ArePlayedOn g lines old v.keeper.disk))
-      (sym said) (λ honest. record {
+      (sym response) (λ honest. record {
         opened = w;
         starts = starts honest;
         clients = ls;
@@ -245,9 +246,9 @@ module _ {D : Type 0} (g : Ghosts D) (old : D) where
         carried = subst (λ k. CarriesOut g k w lines ls v) new carried;
         disk = refl;
       })
-  lines_played w v ks ls lines (Err e) s f new starts carried said =
+  lines_played w v ks ls lines (Err e) s f new starts carried response =
       subst (λ q. OnOk q (g.is_honest v.keeper.disk → ArePlayedOn g lines old v.keeper.disk))
-      (sym said) tt
+      (sym response) tt
 
 -- so many of them were
 pub lines_in_part : {D E : Type 0} (g : Ghosts D) (old : D) (w v : Whole D) (ks ls : List Client)

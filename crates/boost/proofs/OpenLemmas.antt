@@ -6,7 +6,7 @@ use Rattle.disk_model.specs.Disk.{IsAtRest}
 use Rattle.disk_model.specs.declared.disk.Disk.{Ghosts}
 use Rattle.recovery.specs.Openings.{IsOpened, IsReadyStore, KeepsContent}
 use Rattle.world.specs.Moves.{Whole}
-use Rattle.world.specs.Pasts.{BookState}
+use Rattle.txn.specs.Books.{NamedBook}
 use Rattle.world.specs.Worlds.{HasPast}
 use Rattle.world.specs.OneStep.{parts}
 
@@ -16,7 +16,7 @@ module _ {D : Type 0} (g : Ghosts D) (w v : Whole D) (same : w ≡ v) (k : Keepe
   disk_is = ap (λ (x : Whole D). x.keeper.disk) same ∙ ap (λ (x : KeeperState D). x.disk) is
 
   -- the book and the keeper are those that the opening answered
-  pub opened_parts : (book : BookState) → v.book ≡ book →
+  pub opened_parts : (book : NamedBook) → v.book ≡ book →
       (g.is_honest k.disk → IsOpened (g.seen old) book k.area (g.seen k.disk)) →
       g.is_honest w.keeper.disk → IsOpened (g.seen old) w.book w.keeper.area (g.seen w.keeper.disk)
   opened_parts book book_is opened honest =
@@ -27,13 +27,13 @@ module _ {D : Type 0} (g : Ghosts D) (w v : Whole D) (same : w ≡ v) (k : Keepe
       (opened (subst g.is_honest disk_is honest))))
 
   -- numbers are drawn from the book's next one on
-  pub opened_numbers : (book : BookState) → v.book ≡ book → v.next ≡ book.next →
+  pub opened_numbers : (book : NamedBook) → v.book ≡ book → v.next ≡ book.next →
       w.next ≡ w.book.next
   opened_numbers book book_is next_is =
       subst (λ (x : Whole D). x.next ≡ x.book.next) (sym same)
-      (subst (λ (b : BookState). v.next ≡ b.next) (sym book_is) next_is)
+      (subst (λ (b : NamedBook). v.next ≡ b.next) (sym book_is) next_is)
 
-  pub opened_past : (book : BookState) (content : List Collection) →
+  pub opened_past : (book : NamedBook) (content : List Collection) →
       (g.is_honest k.disk → IsOpened (g.seen old) book k.area (g.seen k.disk)) →
       (g.is_honest k.disk → IsAtRest g.seen g.may_leave old →
       IsReadyStore g.seen g.may_leave (g.seen old) book k.area k.disk)

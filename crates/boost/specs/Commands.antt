@@ -1,7 +1,7 @@
 -- What a command's status says.
 use Rattle.std.specs.Prelude.{◌≡◌, ◌⊎◌, ℕ, List}
 use Rattle.calls.specs.declared.refusal.Refusal.{Refusal}
-use Rattle.arguments.specs.declared.Task.{Task}
+use Rattle.boost.specs.declared.arguments.Task.{Task}
 use Rattle.boost.specs.declared.commands.failure.Failure.{Failure}
 use Rattle.script.specs.declared.line.Line.{Line}
 use Rattle.script.specs.declared.line.ScriptError.{ScriptError}

@@ -1,7 +1,7 @@
 -- What a command leaves on a disk, and what a stop at any moment of it might have left.
 use Rattle.std.specs.Prelude.{◌≡◌, ◌⊎◌, ℕ, List, [], length, replicate, take, Bool, true, false}
 use Rattle.std.specs.Prelude.{Err}
-use Rattle.arguments.specs.declared.Task.{Task}
+use Rattle.boost.specs.declared.arguments.Task.{Task}
 use Rattle.boost.specs.Commands.{IsUnderstood}
 use Rattle.calls.specs.Contents.{Collection}
 use Rattle.calls.specs.Formats.{number_of}
@@ -9,10 +9,10 @@ use Rattle.calls.specs.declared.format.Format.{Format}
 use Rattle.calls.specs.declared.refusal.Refusal.{Refusal}
 use Rattle.disk_model.specs.Disk.{ReadsOnly, IsAtRest, LeavesOnly, Rises}
 use Rattle.disk_model.specs.declared.disk.Disk.{Ghosts}
-use Rattle.repetition.specs.Journals.{StandsFor}
-use Rattle.repetition.specs.Reading.{IsSound}
-use Rattle.recovery.specs.Formats.{IsRoomFor, IsRoomAs, IsEmptyStore, IsMaking}
-use Rattle.record_format.specs.declared.record.Record.{Record}
+use Rattle.replay.specs.Journals.{StandsFor}
+use Rattle.replay.specs.Reading.{IsSound}
+use Rattle.recovery.specs.Formatting.{IsRoomFor, IsRoomAs, IsEmptyStore, IsMaking}
+use Rattle.records.specs.declared.record.Record.{Record}
 use Rattle.recovery.specs.declared.report.Report.{Report}
 use Rattle.recovery.specs.declared.report.Survey.{Survey}
 use Rattle.recovery.specs.Heads.{HasHeader, HasNoHeader}
@@ -23,7 +23,7 @@ use Rattle.recovery.specs.Surveys.{IsSurvey}
 use Rattle.recovery.specs.Copies.{IsCopyOf, IsTooLarge, IsCopyAnswer}
 use Rattle.recovery.specs.Refusals.{IsOpenedAtMost, OpeningLeaves}
 use Rattle.recovery.specs.Upgrades.{IsUpgraded}
-use Rattle.repetition.specs.Steps.{State}
+use Rattle.replay.specs.Steps.{State}
 use Rattle.gate_block.specs.declared.area.Area.{Area}
 use Rattle.gate_block.specs.Area.{base_of, size_of}
 use Rattle.txn.specs.Books.{BookState}

@@ -4,7 +4,7 @@ use Rattle.std.specs.Prelude.{MatchOption, Result, IfOk, IsOk, IsOkUnless, slice
 use Rattle.std.specs.List.Sorted.{IsStrictlyIncreasing}
 use Rattle.calls.specs.declared.refusal.Refusal.{Refusal}
 use Rattle.disk_model.specs.declared.disk.Disk.{Ghosts}
-use Rattle.background.specs.Works.{AreTold, WasOpened}
+use Rattle.fizgaloms.specs.Works.{AreTold, WasOpened}
 use Rattle.clients.specs.Known.{Known, newcomer}
 use Rattle.desks.specs.Origins.{Origin}
 use Rattle.script.specs.declared.action.Action.{Action}
@@ -29,16 +29,16 @@ pub record HaveLines (clients : List ℕ) (lines : List Line) : Type 0 where
   pub rises : IsStrictlyIncreasing clients
   pub each : (k : ℕ) → Contains clients k ↔ (IsClient k × Any (IsOfClient k) lines)
 
--- The transcript tells what the lines of its client were answered, by a client of the store that had
--- done nothing before, and knew this at the end.
+-- The transcript tells what the lines of its client were answered, by a client of the store that
+-- had done nothing before, and knew this at the end.
 pub record IsServed (origin : Origin) (lines : List Line) (known : Known) (t : Transcript) :
     Type 0 where
   pub number : ℕ
   pub run : IsRun origin t.client (newcomer number) lines known t
 
--- A thread answers the transcript of the client of the script that it ran, whose number stands at the
--- thread's among those that have lines; or memory was wanted for it. known: what the client of the
--- store knew at the end, which the thread was lent.
+-- A thread answers the transcript of the client of the script that it ran, whose number stands at
+-- the thread's among those that have lines; or memory was wanted for it. known: what the client of
+-- the store knew at the end, which the thread was lent.
 abbrev pub Tells : ScriptState → Origin → (thread : ℕ) → Result (Option Transcript) Refusal →
     Known → Type 0
 Tells script origin thread answer known = IsOkUnless answer Refusal.NoMemory ×

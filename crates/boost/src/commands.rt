@@ -20,7 +20,7 @@ mod stored_run;
 mod surveying;
 mod upgrading;
 
-use arguments::Task;
+use crate::Task;
 use calls::Refusal;
 pub use copying::run_copy;
 use disk_model::{Disk, MemDisk};
@@ -63,9 +63,9 @@ use world::World;
 ///
 /// What a stop leaves, of a disk at rest that reads true and whose bytes are sound: of a Show and
 /// of an Upgrade the content; of a Play the content that a beginning of what its steps committed
-/// gives; of a Format what `recovery::format_as` says. A Format for which the disk has not the room,
-/// or has more, leaves the disk as it was. Output is held in a buffer, so it comes at
-/// the end and where the buffer is full.
+/// gives; of a Format what `recovery::format_as` says. A Format for which the disk has not the
+/// room, or has more, leaves the disk as it was. Output is held in a buffer, so it comes at the end
+/// and where the buffer is full.
 ///
 /// The status is 0 where the command was done; lines of the script that were refused count as done.
 /// Of a Show it says that a store was opened, or found where nothing is to be written, of a Check

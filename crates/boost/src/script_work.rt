@@ -3,8 +3,8 @@ ghost use Rattle.std.specs.Prelude.{◌≡◌, ◌↔◌, Any, length, IfOk, IsO
 ghost use Rattle.calls.specs.declared.refusal.Refusal.{Refusal};
 ghost use Rattle.boost.specs.Serving.{HaveLines, IsOfClient};
 
-use background::Work;
 use calls::Refusal;
+use fizgaloms::Work;
 use script::{Action, Line};
 use std::alloc::{AllocGlobal, Global};
 use std::marker::Model;

@@ -4,21 +4,21 @@ ghost use Rattle.std.specs.Prelude.{false};
 ghost use Rattle.boost.specs.declared.commands.failure.Failure.{Failure};
 ghost use Rattle.boost.specs.Commands.{IsUnderstood, IsOfStore, IsWhyUnplayed, IsNotUnderstoodAt};
 ghost use Rattle.boost.specs.Serving.{WasServed};
-ghost use Rattle.background.specs.Works.{IsLeftByWork};
+ghost use Rattle.fizgaloms.specs.Works.{IsLeftByWork};
 ghost use Rattle.script.specs.Scripts.{IsScriptOf};
 
 use crate::commands::{Failure, report};
 use crate::script_work::Script;
-use background::{Closed, all_ended, run};
 use calls::Refusal;
 use disk_model::Disk;
+use fizgaloms::{Closed, all_ended, run};
 use script::{Line, parse};
 use std::alloc::{AllocGlobal, Global};
 use std::io::{BufWriter, Write};
 use std::rt::Clock;
 use std::sync::Wait;
 use std::thread::Threads;
-use talks::{Said, Transcript};
+use talks::{Response, Transcript};
 
 // What a thread answers of the client that it ran.
 type Told = Result<Option<Transcript>, Refusal>;
@@ -78,7 +78,7 @@ fn tell_end(ended_by: Option<Refusal>, err: &mut impl Write)
     ensures { ended_by ≡ None → err.new ≡ err.old }
 {
     if let Some(refusal) = ended_by {
-        let _written = writeln!(err, "boost: keeping ended: {}", Said::Refused(refusal));
+        let _written = writeln!(err, "boost: keeping ended: {}", Response::Refused(refusal));
         let _flushed = err.flush();
     }
 }

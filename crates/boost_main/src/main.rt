@@ -1,10 +1,34 @@
 //! The program: reads its command line and obeys it.
 #![tactic(auto)]
 
+mod answers;
+mod arrivals;
+mod coming;
+mod command_line;
+mod doorway;
+mod fifos;
+mod files;
+mod handing;
+mod lint;
+mod listen;
+mod listening;
+mod multiplex;
+mod notes;
+mod outlet;
+mod seat;
+mod served;
+mod shell;
+mod tagged;
+mod trouble;
+mod until;
+mod watching;
+mod words;
+
 use boost::{Failure, report};
 use calls::Refusal;
-use command_line::{Fifos, SystemFifos, obey};
+use command_line::obey;
 use disk_model::Unknown;
+use fifos::{Fifos, SystemFifos};
 use std::alloc::{AllocError, Global};
 use std::fs::File;
 use std::io::{Read, Write};

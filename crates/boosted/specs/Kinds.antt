@@ -103,7 +103,7 @@ module _ {S : Type 0} (answers : S → Call → Reply → Type 0) (after : S →
       (back : (s t : S) (c : Call) (r : Reply) → Askable c → Does s c r t → Back t c r s)
       (back_only : (s t u : S) (c : Call) (r : Reply) → Askable c → Does s c r t → Back t c r u →
       u ≡ s) where
-    -- A later that is Done stays so past what is put off, calls, laters and undoings.
+    -- A later that is Done stays so past what is deferred, calls, laters and undoings.
     laws_of : ((s t : S) (d : Call) → Deferrable d → answers s d Reply.Done →
         answers t d Reply.Done) →
         ((s : S) (c : Call) (r : Reply) (d : Call) → Askable c → Disposable d → answers s c r →
@@ -114,7 +114,7 @@ module _ {S : Type 0} (answers : S → Call → Reply → Type 0) (after : S →
         ((s u : S) (c : Call) (r : Reply) (d : Call) → Disposable d → Apart c r d Reply.Done →
         Back s c r u → answers s d Reply.Done → answers u d Reply.Done) →
         BoostedLaws (meaning_of kind answers after empty within)
-    laws_of put_off calls laters undoings = record {
+    laws_of laws_deferred calls laters undoings = record {
       starts_within = starts;
       holds = λ s. record {
         goes_back = λ t at c r ask d. (back s t c r ask d, λ u. back_only s t u c r ask d);
@@ -125,7 +125,7 @@ module _ {S : Type 0} (answers : S → Call → Reply → Type 0) (after : S →
         answered_belongs = λ at. answered s;
         wears = λ n at. wears s n;
         deferred_is_ready = λ at. deferred s;
-        deferred_stays_ready = λ at bt c r d l h. put_off s (after s c r) d l;
+        deferred_stays_ready = λ at bt c r d l h. laws_deferred s (after s c r) d l;
         leaves_ready = λ at. leaves s;
         stays_past_calls = λ at bt. calls s;
         stays_past_laters = λ at bt b d m l other. laters s b d m l (other refl);

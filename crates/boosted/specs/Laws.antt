@@ -36,7 +36,7 @@ module _ {S A : Type 0} (meaning : Meaning S A) where
     pub wears : (n : ℕ) (at : A) (c : Call) (r : Reply) →
         meaning.within s n → meaning.answers s at c r →
         meaning.within (meaning.leaves s at c r) (n + 1)
-    -- What can be put off is Done at once, and stays so past any run.
+    -- What can be deferred is Done at once, and stays so past any run.
     pub deferred_is_ready : (at : A) (d : Call) →
         meaning.belongs s at d → Deferrable d → meaning.answers s at d Reply.Done
     pub deferred_stays_ready : (at bt : A) (c : Call) (r : Reply) (d : Call) → Deferrable d →

@@ -35,7 +35,7 @@ AskRefusal f belongs misplaced c Refusal.BadArg = belongs × (Askable c → ⊥)
 AskRefusal f belongs misplaced c Refusal.TooLong = belongs × Askable c × (IsShort f c → ⊥)
 AskRefusal f belongs misplaced c r = misplaced r
 
--- A call to be put off is refused so: where it is misplaced, else where it cannot be put off.
+-- A call to be deferred is refused so: where it is misplaced, else where it cannot be deferred.
 abbrev pub DeferRefusal : (belongs : Type 0) → (misplaced : Refusal → Type 0) → Call → Refusal →
     Type 0
 DeferRefusal belongs misplaced c Refusal.BadArg = belongs × (Deferrable c → ⊥)
@@ -78,6 +78,6 @@ module _ {S A : Type 0} (meaning : Meaning S A) where
   abbrev pub AskRefused : Format → S → A → Call → Refusal → Type 0
   AskRefused f s at c = AskRefusal f (meaning.belongs s at c) (meaning.misplaced s at c) c
 
-  -- and a call to be put off so.
+  -- and a call to be deferred so.
   abbrev pub DeferRefused : S → A → Call → Refusal → Type 0
   DeferRefused s at c = DeferRefusal (meaning.belongs s at c) (meaning.misplaced s at c) c

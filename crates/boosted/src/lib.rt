@@ -107,6 +107,6 @@ pub trait Boosted: Drop {
 
     /// Calls are taken back by their inverses; those whose needs do not conflict commute, and a
     /// later moves left past them; one that only reads changes nothing; a run wears by one; what is
-    /// put off or left to the commit can run there.
+    /// deferred or left to the commit can run there.
     ghost laws: { BoostedLaws meaning };
 }

@@ -1,4 +1,4 @@
-// Which calls a client can ask of a collection of a kind, or put off there.
+// Which calls a client can ask of a collection of a kind, or deferred there.
 ghost use Rattle.std.specs.Prelude.{◌↔◌, IsOk, IfErr};
 ghost use Rattle.calls.specs.Formats.{widest};
 ghost use Rattle.calls.specs.Rules.{Askable, IsShort, Deferrable};
@@ -22,9 +22,9 @@ pub fn check_asked(kind: Kind, call: &Call) -> Result<(), Refusal>
     check_call(call)
 }
 
-/// Whether a client can put off the call to a collection of the kind. It takes no memory.
+/// Whether a client can defer the call to a collection of the kind. It takes no memory.
 ///
-/// WrongKind for a call of another kind, else BadArg for one that cannot be put off.
+/// WrongKind for a call of another kind, else BadArg for one that cannot be deferred.
 pub fn check_deferred(kind: Kind, call: &Call) -> Result<(), Refusal>
     ensures ok { IsOk result ↔ (IsOf kind call.now × Deferrable call.now) }
     ensures err { IfErr result (DeferRefusal (IsOf kind call.now) (IsWrong kind call.now)

@@ -134,7 +134,7 @@ quota_same s t (Call.Free x) l h = absurd h.1
 quota_same s t (Call.Fill n) l h = absurd h.1
 quota_same s t d l h = absurd l
 
--- Only a bump and a filling can be put off: a counter has bumps, and a stock has fillings.
+-- Only a bump and a filling can be deferred: a counter has bumps, and a stock has fillings.
 pub set_deferred : (s : sets.NumberSet) (d : Call) → kind_of d ≡ Kind.Set → Deferrable d →
     sets.Answers s d Reply.Done
 set_deferred s (Call.Bump n) k l = cc
@@ -251,7 +251,7 @@ pub leaves_need : (c : Call) (r : Reply) →
 leaves_need (Call.Release x) Reply.Queued = (refl, tt)
 leaves_need c r = tt
 
--- What can be put off is another later than each that may run, or apart from it: a bump is apart
+-- What can be deferred is another later than each that may run, or apart from it: a bump is apart
 -- from every bump, and a filling from every filling.
 pub deferred_is_other : (b d : Call) → Disposable b → Deferrable d →
     (b ≡ d → ⊥) ⊎ Apart b Reply.Done d Reply.Done

@@ -5,7 +5,7 @@ use Rattle.calls.specs.declared.call.Call.{Call}
 use Rattle.calls.specs.declared.reply.Reply.{Reply}
 use Rattle.calls.specs.declared.need.Mode.{Mode}
 use Rattle.calls.specs.Rules.{need_of}
-use Rattle.calls.specs.Transactions.{Entry, Asked, PutOff, Transaction, Whole, Made}
+use Rattle.calls.specs.Transactions.{Entry, Asked, Deferred, Transaction, Whole, Made}
 
 abbrev pub is_read : Mode → Bool
 is_read Mode.Read = true
@@ -18,7 +18,7 @@ reads c r = is_read (need_of c r).mode
 -- A journal tells of it.
 abbrev pub is_journalled : Entry → Bool
 is_journalled (Asked e) = not (reads e.call e.reply)
-is_journalled (PutOff at c) = true
+is_journalled (Deferred at c) = true
 
 -- The transaction without its calls that only read.
 abbrev pub without_reads : Transaction → Transaction

@@ -1,4 +1,4 @@
--- Transactions: calls with their replies, and what is put off to the commit; and transactions one
+-- Transactions: calls with their replies, and what is deferred to the commit; and transactions one
 -- after another.
 use Rattle.std.specs.Prelude.{◌≡◌, ℕ, ◌==◌, not, List, [], ◌∷◌, ◌++◌, map, Contains}
 use Rattle.std.specs.List.{filter}
@@ -23,10 +23,10 @@ pub record Event : Type 0 where
 abbrev pub Does : List Collection → Event → List Collection → Type 0
 Does s e t = does s e.at e.call e.reply t
 
--- What a transaction asked for: a call, or one that it put off to its commit.
+-- What a transaction asked for: a call, or one that it deferred to its commit.
 pub data Entry : Type 0 where
   Asked : Event → Entry
-  PutOff : (at : ℕ) → Call → Entry
+  Deferred : (at : ℕ) → Call → Entry
 
 -- A transaction: all that it asked for, in its order; or the making of one empty collection.
 pub data Transaction : Type 0 where
@@ -37,15 +37,15 @@ pub data Transaction : Type 0 where
 abbrev pub calls_of : List Entry → List Event
 calls_of [] = []
 calls_of (Asked e ∷ es) = e ∷ calls_of es
-calls_of (PutOff at c ∷ es) = calls_of es
+calls_of (Deferred at c ∷ es) = calls_of es
 
--- What is put off to the commit, in the order asked, each with the reply Done. A queued release
--- puts off the freeing.
+-- What is deferred to the commit, in the order asked, each with the reply Done. A queued release
+-- defers the freeing.
 abbrev pub laters_of : List Entry → List Event
 laters_of [] = []
 laters_of (Asked e ∷ es) = map (λ c. record { at = e.at; call = c; reply = Reply.Done })
     (left_by e.call e.reply) ++ laters_of es
-laters_of (PutOff at c ∷ es) = record { at = at; call = c; reply = Reply.Done } ∷ laters_of es
+laters_of (Deferred at c ∷ es) = record { at = at; call = c; reply = Reply.Done } ∷ laters_of es
 
 -- No collection has the name, and one that is empty comes to the end.
 pub record Makes (s : List Collection) (name : List ℕ) (kind : Kind) (t : List Collection) : Type
@@ -58,7 +58,7 @@ abbrev pub RunsBoth : {S E : Type 0} → (S → E → S → Type 0) → (asked l
     Type 0
 RunsBoth {S} does asked laters s t = (m : S) × Leads does asked s m × Leads does laters m t
 
--- The transaction leads from s to t: its calls one after another, and then what it put off; or a
+-- The transaction leads from s to t: its calls one after another, and then what it deferred; or a
 -- collection is made. What a call does, and what making does, are given.
 abbrev pub RunsWholeBy : {S : Type 0} → (does : S → Event → S → Type 0) →
     (makes : S → List ℕ → Kind → S → Type 0) → S → Transaction → S → Type 0

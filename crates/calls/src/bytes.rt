@@ -47,14 +47,6 @@ impl Bytes {
     {
         self.items.as_slice()
     }
-
-    /// The vector, with nothing copied.
-    pub fn into_vec(self) -> Vec<u8>
-        ensures { result.items ≡ self }
-    {
-        let Self { items } = self;
-        items
-    }
 }
 
 /// The same bytes once more. Refused only for want of memory.

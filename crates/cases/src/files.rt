@@ -1,89 +1,12 @@
-// The program on files.
-use crate::plays::runs::{Ran, run_on, to_play};
+// Files, and disks that are one.
+use crate::plays::runs::{run_on, to_play};
 use crate::plays::told::Told;
 use crate::plays::values::{bytes, not_understood, number, numbers, pair, three};
 use crate::plays::workbench::Workbench;
-use crate::runs::words;
-use command_line::{Fifos, Way, obey};
 use disk_model::{Disk, FileDisk, Unknown};
-use std::alloc::Global;
 use std::fs::{self, File};
 use std::io::{self, Seek, SeekFrom, Write};
-use std::rt::{Clock, Files};
-use std::sync::Wait;
-use std::thread::Threads;
-
-/// Tells what the program answers to a command line.
-pub fn run_program(
-    rt: &(impl Files<File = File> + Threads + Wait + Clock + AllocGlobal + Sync),
-    bench: &mut Workbench,
-    line: &str,
-    told: &mut Told,
-) -> io::Result<()> {
-    let words = words(rt.alloc(), line)?;
-    let ran = obeyed(rt, words.as_slice());
-    ran.tell(bench.take_last(), told);
-    Ok(())
-}
-
-/// Tells what the program answers to a command line while another run has a file.
-pub fn run_beside(
-    rt: &(impl Files<File = File> + Threads + Wait + Clock + AllocGlobal + Sync),
-    bench: &mut Workbench,
-    line: &str,
-    told: &mut Told,
-) -> io::Result<()> {
-    let (path, words) = pair(line, " ")?;
-    let file = File::open(rt, path)?;
-    file.try_lock()?;
-    run_program(rt, bench, words, told)
-}
-
-// A system without FIFOs: no case's program has clients that come by a door.
-#[derive(Drop)]
-struct NoFifos;
-
-impl Fifos for NoFifos {
-    fn open_both(&self, _path: &str) -> io::Result<File> {
-        Err(io::Error::from(io::ErrorKind::NotFound))
-    }
-
-    fn open(&self, _alloc: Global, _path: &str, _way: Way) -> io::Result<File> {
-        Err(io::Error::from(io::ErrorKind::NotFound))
-    }
-
-    fn remove(&self, _path: &str) -> io::Result<()> {
-        Err(io::Error::from(io::ErrorKind::NotFound))
-    }
-
-    fn names(&self, _folder: &str) -> io::Result<Vec<String>> {
-        Err(io::Error::from(io::ErrorKind::NotFound))
-    }
-
-    fn has_standard_error(&self) -> bool {
-        false
-    }
-}
-
-// What the program answers to the words of a command line.
-fn obeyed<R: Files<File = File> + Threads + Wait + Clock + AllocGlobal + Sync>(
-    rt: &R,
-    words: &[&str],
-) -> Ran {
-    let (mut out, mut err) = (Vec::new(rt.alloc()), Vec::new(rt.alloc()));
-    let status = obey::<Unknown, R, NoFifos>(rt, words, io::empty(), NoFifos, &mut out, &mut err);
-    Ran { status, out, err }
-}
-
-/// Writes the script to a file.
-pub fn write_script(
-    rt: &(impl Files<File = File> + AllocGlobal),
-    bench: &mut Workbench,
-    path: &str,
-) -> io::Result<()> {
-    let script = bench.take_script(rt.alloc());
-    fs::write(rt, path, script.as_slice())
-}
+use std::rt::Files;
 
 /// Gives a file a size.
 pub fn set_size(rt: &impl Files<File = File>, line: &str) -> io::Result<()> {

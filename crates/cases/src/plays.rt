@@ -7,7 +7,7 @@ pub mod disks;
 pub mod questions;
 pub mod runs;
 mod scripts;
-mod steps;
+mod stepping;
 pub mod talked;
 pub mod through_store;
 pub mod told;

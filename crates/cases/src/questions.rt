@@ -32,8 +32,6 @@ fn ask_of_threads(
     told: &mut Told,
 ) -> io::Result<()> {
     match word {
-        "boost" => files::run_program(rt, bench, rest, told),
-        "beside" => files::run_beside(rt, bench, rest, told),
         "serve" => runs::serve(rt, bench, told),
         "serve_ends" => runs::serve_ends(rt, bench, told),
         _ => ask_of_files(rt, bench, word, rest, told),
@@ -49,15 +47,10 @@ fn ask_of_files(
     told: &mut Told,
 ) -> io::Result<()> {
     match word {
-        "file" => files::write_script(rt, bench, rest),
         "size" => files::set_size(rt, rest),
         "bytes" => files::read(rt, rest, told),
         "write_file" => files::write(rt, rest),
         "write_wide" => files::write_wide(rt, rest),
-        "is_there" => {
-            told.tell(File::open(rt, rest).is_ok());
-            Ok(())
-        }
         "remove" => fs::remove_file(rt, rest),
         "play_read_only" => files::play_read_only(rt, bench, rest, told),
         _ => ask_of_sweeps(rt, bench, word, rest, told),

@@ -81,8 +81,8 @@ pub fn play_line(
     play(rt, bench, told)
 }
 
-/// Words with a comma between each two; no words where there is no text.
-pub fn words(alloc: Global, text: &str) -> Result<Vec<&str>, AllocError> {
+// Words with a comma between each two; no words where there is no text.
+fn words(alloc: Global, text: &str) -> Result<Vec<&str>, AllocError> {
     let mut words = Vec::new(alloc);
     if !text.is_empty() {
         for word in text.split(',') {

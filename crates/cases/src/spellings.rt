@@ -1,5 +1,5 @@
 // Bytes that spell a record.
-ghost use Rattle.record_format.specs.Records.{Fits};
+ghost use Rattle.records.specs.Records.{Fits};
 
 use crate::plays::told::Told;
 use crate::plays::values::{bytes, not_understood};

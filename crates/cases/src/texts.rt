@@ -1,6 +1,6 @@
 // The texts of refusals, and the room of what clauses alone read.
 use crate::plays::told::Told;
-use boost::Said;
+use boost::Response;
 use calls::Refusal;
 use disk_model::{FileDisk, Past, Unknown};
 use std::fs::File;
@@ -40,7 +40,7 @@ const REFUSALS: [Refusal; 27] = [
 /// Tells how a line of a script is answered that is refused, for each refusal.
 pub fn tell_all(told: &mut Told) {
     for refusal in &REFUSALS {
-        told.tell(Said::Refused(*refusal));
+        told.tell(Response::Refused(*refusal));
     }
 }
 

@@ -81,7 +81,7 @@ pub record MakingLaws {S A : Type 0} (meaning : Meaning S A) (making : Making S)
       (r : Reply) →
       making.makes s name kind u → Does meaning s at c r t →
       (v : S) × making.makes t name kind v × Does meaning u at c r v
-  -- What belongs stays so, what can be put off and is Done stays Done, and a making wears nothing.
+  -- What belongs stays so, what can be deferred and is Done stays Done, and a making wears nothing.
   pub makes_keep_belonging : (s t : S) (name : List ℕ) (kind : Kind) (at : A) (c : Call) →
       making.makes s name kind t → meaning.belongs s at c → meaning.belongs t at c
   pub makes_keep_deferred : (s t : S) (name : List ℕ) (kind : Kind) (at : A) (d : Call) →

@@ -118,12 +118,12 @@ impl Catalog {
     /// items in their order.
     ///
     /// NoSuchCollection where there is none, then NoMemory.
-    pub fn show(&self, col: u8) -> Result<Shown, Refusal>
-        ensures ok { IfOk result (λ shown. At (λ x. Shows x shown) self.now col) }
-        ensures err { IfErr result (ShowRefused self.now col) }
+    pub fn show(&self, at: u8) -> Result<Shown, Refusal>
+        ensures ok { IfOk result (λ shown. At (λ x. Shows x shown) self.now at) }
+        ensures err { IfErr result (ShowRefused self.now at) }
     {
-        match self.names.name(col) {
-            Some(name) => self.shelves.of(col).shown(col, name),
+        match self.names.name(at) {
+            Some(name) => self.shelves.of(at).shown(at, name),
             None => Err(Refusal::NoSuchCollection),
         }
     }

@@ -1,9 +1,9 @@
 // A collection of any kind: what it answers, its items, and how it is filled.
 ghost use Rattle.std.specs.Prelude.{◌≡◌, ◌⊎◌, ◌↔◌, IsTrue, IsOk, IfOk, OnOk, OnErr, IsOkUnless, []};
-ghost use Rattle.std.specs.Prelude.{◌∷◌, map, List};
+ghost use Rattle.std.specs.Prelude.{◌∷◌, map};
 ghost use Rattle.calls.specs.declared.reply.Reply.{Reply};
 ghost use Rattle.calls.specs.Contents.{Answers, after, empty, kind_of_content, items_of, InMap};
-ghost use Rattle.calls.specs.Contents.{InQueue, InQuotas, Content, IsItemOf};
+ghost use Rattle.calls.specs.Contents.{InQueue, InQuotas, IsItemOf};
 ghost use Rattle.calls.specs.Rules.{Askable, TakesNoMemory, AsksForValue};
 ghost use Rattle.boosted.specs.Kinds.{IsOf};
 ghost use Rattle.boosted.specs.Meaning.{IsRoomy};
@@ -285,12 +285,6 @@ fn is_item_of(kind: Kind, item: &Item) -> bool
         _ => false,
     }
 }
-
-/// A law: no two contents of a kind have the same items.
-pub fn one_content()
-    ensures { (j k : Content) (items : List Item) → kind_of_content j ≡ kind_of_content k →
-        ListsContent items j → ListsContent items k → j ≡ k }
-{}
 
 impl Holding {
     // A collection of the kind, into which the items are put. The last goes first: a queue keeps

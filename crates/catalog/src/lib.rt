@@ -30,7 +30,7 @@ mod shown;
 
 pub use catalog::Catalog;
 pub use four::Four;
-pub use holding::{Holding, follows, one_content};
+pub use holding::{Holding, follows};
 pub use measured::Measured;
 pub use names::{Named, Names};
 pub use part::{NamedHolding, Part};

@@ -66,7 +66,7 @@ pub still_laid : (area : Area) (n : ℕ) (w : Laying) (d c : List ℕ) (bodies :
 still_laid area n w d c bodies one is same was = record {
   laid = was.laid;
   stands = record {
-    position = was.stands.position;
+    offset = was.stands.offset;
     holds = λ some. subst (IsRow was.laid) (sym (apart area w.area n d c one is same))
         (was.stands.holds some);
   };
@@ -117,7 +117,7 @@ still_ready seen may_leave area other n old new bodies one is same left was =
     apart other area n (seen old) (seen new) b.0 b.1 same in
     record {
       holds = subst (λ (l : List ℕ). IsRow bodies l) (sym stays) was.holds;
-      position = was.position;
+      offset = was.offset;
       at_rest = λ c now. let e = left c now in
           apart other area n e.0 c b.0 b.1 e.2 ∙ was.at_rest e.0 e.1 ∙ sym stays;
     }

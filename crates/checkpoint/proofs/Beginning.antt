@@ -1,7 +1,7 @@
 -- What the beginning of an image answers, where the image is not the one that is awaited.
 use Rattle.std.proofs.Common.{◌≡◌, ℕ, false, refl, Err}
 use Rattle.calls.specs.declared.refusal.Refusal.{Refusal}
-use Rattle.blocks.specs.declared.block.Image.{Image}
+use Rattle.records.specs.declared.block.Image.{Image}
 use Rattle.checkpoint.specs.ImageAnswers.{AskAnswers, BeginAnswers}
 use Rattle.checkpoint.specs.Keepers.{KeeperState}
 

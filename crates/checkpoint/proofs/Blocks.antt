@@ -9,9 +9,9 @@ use Rattle.std.specs.List.{All}
 use Rattle.std.specs.Result.{is_err}
 use Rattle.calls.specs.declared.refusal.Refusal.{Refusal}
 use Rattle.gate_block.specs.Row.{block, row}
-use Rattle.gate_block.specs.Area.{size_of, position_of, IsLaid}
+use Rattle.gate_block.specs.Area.{size_of, offset_of, IsLaid}
 use Rattle.gate_block.specs.Answers.{IsAppendAnswer}
-use Rattle.blocks.specs.Wholes.{IsWhole, body_of}
+use Rattle.records.specs.Wholes.{IsWhole, body_of}
 use Rattle.checkpoint.specs.declared.laying.Laying.{Laying}
 use Rattle.checkpoint.specs.declared.stage.Stage.{Stage}
 use Rattle.checkpoint.specs.Imaging.{IsBeingLaid, IsTooLong, bodies_of, left_of}
@@ -71,8 +71,8 @@ laid_next w v s new b bodies next whole step was = record {
 -- the next block has room, as all that are left have
 pub no_more_room : (w : Laying) (b : Vec ℕ Global) (bytes : List ℕ) → 1 ≤ length (left_of w) →
     b ≡ get_or (left_of w) 0 b → bytes ≡ b.items →
-    position_of w.area + bytes_in (left_of w) < size_of w.area →
-    size_of w.area < position_of w.area + length bytes → ⊥
+    offset_of w.area + bytes_in (left_of w) < size_of w.area →
+    size_of w.area < offset_of w.area + length bytes → ⊥
 no_more_room w b bytes some at is room full =
     let next = next_is (left_of w) (drop 1 (left_of w)) b some at refl in
     omega (

@@ -9,7 +9,7 @@ use Rattle.disk_model.specs.Disk.{Torn, Overwritten, IsAtRest, LeavesOnly}
 use Rattle.disk_model.proofs.Walk.{weaker}
 use Rattle.gate_block.specs.declared.area.Area.{Area}
 use Rattle.gate_block.specs.Row.{row, IsRow}
-use Rattle.gate_block.specs.Area.{base_of, size_of, position_of, bytes_of, IsReady}
+use Rattle.gate_block.specs.Area.{base_of, size_of, offset_of, bytes_of, IsReady}
 use Rattle.gate_block.proofs.Facts.{ready}
 use Rattle.gate_block.proofs.Parts.{written_there}
 use Rattle.checkpoint.specs.declared.laying.Laying.{Laying}
@@ -67,12 +67,12 @@ laid_same w v e = cc
 
 -- all blocks of an image that is written were laid
 pub all_laid : (w : Laying) (s : List ℕ) (bodies : List (List ℕ)) → left_of w ≡ [] → bodies ≢ [] →
-    IsBeingLaid w s bodies → (position_of w.area ≡ length (row bodies)) ×
+    IsBeingLaid w s bodies → (offset_of w.area ≡ length (row bodies)) ×
     IsRow bodies (bytes_of w.area s)
 all_laid w s bodies none some was =
     let is : was.laid ≡ bodies = sym (append-nil was.laid) ∙
     sym (ap (λ l. was.laid ++ bodies_of l) none) ∙ was.all in (
-      was.stands.position ∙ ap (λ (l : List (List ℕ)). length (row l)) is,
+      was.stands.offset ∙ ap (λ (l : List (List ℕ)). length (row l)) is,
       subst (λ (l : List (List ℕ)). IsRow l (bytes_of w.area s)) is
           (was.stands.holds (λ e. some (sym is ∙ e))),
     )

@@ -1,4 +1,4 @@
--- Blocks that carry groups of records, and positions between them.
+-- Blocks that carry groups of records, and LSNs between them.
 use Rattle.std.proofs.Common.{◌≡◌, ◌≢◌, inl, inr, ℕ, ◌+◌, ◌-◌, ◌≤◌, List, []}
 use Rattle.std.proofs.Common.{◌∷◌, ◌++◌, length, map, take, drop, Vec, Contains, refl, sym}
 use Rattle.std.proofs.Common.{◌∙◌}
@@ -8,15 +8,15 @@ use Rattle.std.specs.declared.alloc.Global.{Global}
 use Rattle.std.proofs.lemmas.List.{take_at}
 use Rattle.std.proofs.lemmas.List.Elements.{All-contains, All-weaker}
 use Rattle.gate_block.specs.Row.{IsBlockOf}
-use Rattle.record_format.specs.declared.record.Record.{Record}
-use Rattle.record_format.specs.Records.{spelling}
-use Rattle.record_format.specs.Acts.{places}
-use Rattle.blocks.specs.declared.block.Block.{Block}
-use Rattle.blocks.specs.Packings.{AreWhole}
-use Rattle.blocks.specs.Wholes.{body_of}
-use Rattle.repetition.specs.Journals.{records_in}
+use Rattle.records.specs.declared.record.Record.{Record}
+use Rattle.records.specs.Records.{spelling}
+use Rattle.records.specs.Acts.{places}
+use Rattle.records.specs.declared.block.Block.{Block}
+use Rattle.records.specs.Packings.{AreWhole}
+use Rattle.records.specs.Wholes.{body_of}
+use Rattle.replay.specs.Journals.{records_in}
 use Rattle.checkpoint.specs.Imaging.{bodies_of}
-use Rattle.blocks.specs.Carried.{Carries}
+use Rattle.records.specs.Carried.{Carries}
 use Rattle.checkpoint.specs.Keeping.{IsApart, Uncrossed}
 use Rattle.checkpoint.proofs.StandLemmas.{same_beginning}
 
@@ -39,35 +39,35 @@ same_groups end place (c ∷ bs) (g ∷ gs) (h ∷ hs) us vs a b e =
     let rest = same_groups (end + length g) (place + places g) bs gs hs us vs a.1 there first.1 in
     ((λ i. first.0 i ∷ rest.0 i), rest.1)
 
--- ---- positions between blocks
+-- ---- LSNs between blocks
 
-pub apart_append : (front : ℕ) (gs hs : List (List Record)) (position : ℕ) →
-    IsApart front gs position → IsApart (front + length (records_in gs)) hs position →
-    IsApart front (gs ++ hs) position
-apart_append front [] hs position first more =
-    subst (λ n. IsApart n hs position) (omega arith) more
-apart_append front (g ∷ gs) hs position first more =
+pub apart_append : (front : ℕ) (gs hs : List (List Record)) (lsn : ℕ) →
+    IsApart front gs lsn → IsApart (front + length (records_in gs)) hs lsn →
+    IsApart front (gs ++ hs) lsn
+apart_append front [] hs lsn first more =
+    subst (λ n. IsApart n hs lsn) (omega arith) more
+apart_append front (g ∷ gs) hs lsn first more =
     let size = length-append g (records_in gs) in (
       first.0,
-      apart_append (front + length g) gs hs position first.1
-          (subst (λ n. IsApart n hs position) (omega (arith, size)) more),
+      apart_append (front + length g) gs hs lsn first.1
+          (subst (λ n. IsApart n hs lsn) (omega (arith, size)) more),
     )
 
 -- of more blocks, those behind are apart too
-pub apart_back : (front : ℕ) (gs hs : List (List Record)) (position : ℕ) →
-    IsApart front (gs ++ hs) position → IsApart (front + length (records_in gs)) hs position
-apart_back front [] hs position all = subst (λ n. IsApart n hs position) (omega arith) all
-apart_back front (g ∷ gs) hs position all =
+pub apart_back : (front : ℕ) (gs hs : List (List Record)) (lsn : ℕ) →
+    IsApart front (gs ++ hs) lsn → IsApart (front + length (records_in gs)) hs lsn
+apart_back front [] hs lsn all = subst (λ n. IsApart n hs lsn) (omega arith) all
+apart_back front (g ∷ gs) hs lsn all =
     let size = length-append g (records_in gs) in
-    subst (λ n. IsApart n hs position) (omega (arith, size))
-    (apart_back (front + length g) gs hs position all.1)
+    subst (λ n. IsApart n hs lsn) (omega (arith, size))
+    (apart_back (front + length g) gs hs lsn all.1)
 
 -- and those before
-pub apart_front : (front : ℕ) (gs hs : List (List Record)) (position : ℕ) →
-    IsApart front (gs ++ hs) position → IsApart front gs position
-apart_front front [] hs position all = tt
-apart_front front (g ∷ gs) hs position all =
-    (all.0, apart_front (front + length g) gs hs position all.1)
+pub apart_front : (front : ℕ) (gs hs : List (List Record)) (lsn : ℕ) →
+    IsApart front (gs ++ hs) lsn → IsApart front gs lsn
+apart_front front [] hs lsn all = tt
+apart_front front (g ∷ gs) hs lsn all =
+    (all.0, apart_front (front + length g) gs hs lsn all.1)
 
 pub uncrossed_front : (freezes : List ℕ) (gs hs : List (List Record)) →
     Uncrossed freezes (gs ++ hs) → Uncrossed freezes gs
@@ -75,27 +75,27 @@ uncrossed_front freezes gs hs all =
     All-weaker (λ p. IsApart 0 (gs ++ hs) p) (λ p. IsApart 0 gs p)
     (λ p apart. apart_front 0 gs hs p apart) freezes all
 
--- a position that no block reaches, and one behind them
-pub apart_before : (front : ℕ) (gs : List (List Record)) (position : ℕ) → position ≤ front →
-    IsApart front gs position
-apart_before front [] position le = tt
-apart_before front (g ∷ gs) position le =
-    (inl le, apart_before (front + length g) gs position (omega (arith, le)))
+-- a LSN that no block reaches, and one behind them
+pub apart_before : (front : ℕ) (gs : List (List Record)) (lsn : ℕ) → lsn ≤ front →
+    IsApart front gs lsn
+apart_before front [] lsn le = tt
+apart_before front (g ∷ gs) lsn le =
+    (inl le, apart_before (front + length g) gs lsn (omega (arith, le)))
 
-pub apart_behind : (front : ℕ) (gs : List (List Record)) (position : ℕ) →
-    front + length (records_in gs) ≤ position → IsApart front gs position
-apart_behind front [] position le = tt
-apart_behind front (g ∷ gs) position le =
+pub apart_behind : (front : ℕ) (gs : List (List Record)) (lsn : ℕ) →
+    front + length (records_in gs) ≤ lsn → IsApart front gs lsn
+apart_behind front [] lsn le = tt
+apart_behind front (g ∷ gs) lsn le =
     let size = length-append g (records_in gs) in (
       inr (omega (arith, le, size)),
-      apart_behind (front + length g) gs position (omega (arith, le, size)),
+      apart_behind (front + length g) gs lsn (omega (arith, le, size)),
     )
 
--- a position at which the book was frozen
-pub apart_frozen : (freezes : List ℕ) (groups : List (List Record)) (position : ℕ) →
-    Uncrossed freezes groups → Contains freezes position → IsApart 0 groups position
-apart_frozen freezes groups position all one =
-    All-contains (λ p. IsApart 0 groups p) freezes position all one
+-- a LSN at which the book was frozen
+pub apart_frozen : (freezes : List ℕ) (groups : List (List Record)) (lsn : ℕ) →
+    Uncrossed freezes groups → Contains freezes lsn → IsApart 0 groups lsn
+apart_frozen freezes groups lsn all one =
+    All-contains (λ p. IsApart 0 groups p) freezes lsn all one
 
 -- ---- bodies of whole blocks
 

@@ -6,7 +6,7 @@ use Rattle.calls.specs.declared.format.Format.{Format}
 use Rattle.gate_block.specs.declared.area.Area.{Area}
 use Rattle.gate_block.specs.Row.{SameOutside}
 use Rattle.gate_block.specs.Area.{base_of, size_of}
-use Rattle.repetition.specs.Journals.{IsHeader}
+use Rattle.replay.specs.Journals.{IsHeader}
 use Rattle.checkpoint.specs.DiskHeads.{IsHeaded}
 
 -- where the bytes before a place are the same, so are fewer of them, and each of them

@@ -9,4 +9,5 @@ pub mod YieldLemmas
 pub mod GroupLemmas
 pub mod ReceivedLemmas
 mod TurnKeeping
+mod ImageInProgress
 mod ImageKeeping

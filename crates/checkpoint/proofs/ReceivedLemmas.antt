@@ -11,23 +11,23 @@ use Rattle.disk_model.specs.Disk.{LeavesOnly}
 use Rattle.disk_model.proofs.Walk.{started}
 use Rattle.gate_block.specs.Row.{IsRow}
 use Rattle.gate_block.specs.Area.{bytes_of}
-use Rattle.record_format.specs.declared.record.Record.{Record}
-use Rattle.record_format.specs.Records.{spelling, IsRecord}
-use Rattle.record_format.specs.Acts.{places}
-use Rattle.blocks.specs.declared.block.Block.{Block}
-use Rattle.blocks.proofs.Places.{places_append}
+use Rattle.records.specs.declared.record.Record.{Record}
+use Rattle.records.specs.Records.{spelling, IsRecord}
+use Rattle.records.specs.Acts.{places}
+use Rattle.records.specs.declared.block.Block.{Block}
+use Rattle.records.proofs.Places.{places_append}
 use Rattle.boosted.proofs.Each.{each_append}
-use Rattle.machine.specs.Machines.{resting}
-use Rattle.machine.proofs.Journalled.{GoesUnheard}
-use Rattle.repetition.specs.Journals.{records_in}
-use Rattle.repetition.specs.Steps.{State, Steps}
-use Rattle.repetition.proofs.LagLemmas.{lags_self}
+use Rattle.steps.specs.Machines.{resting}
+use Rattle.steps.proofs.Journalled.{GoesUnheard}
+use Rattle.replay.specs.Journals.{records_in}
+use Rattle.replay.specs.Steps.{State, Steps}
+use Rattle.replay.proofs.LagLemmas.{lags_self}
 use Rattle.checkpoint.specs.declared.laying.Laying.{Laying}
 use Rattle.checkpoint.specs.declared.stage.Ending.{Ending}
 use Rattle.checkpoint.specs.declared.stage.Stage.{Stage}
 use Rattle.std.specs.Option.{option_to_list}
 use Rattle.checkpoint.specs.Keepers.{KeeperState, IsFresh}
-use Rattle.blocks.specs.Carried.{Carries}
+use Rattle.records.specs.Carried.{Carries}
 use Rattle.checkpoint.specs.Stored.{AreReadTo, StandIn}
 use Rattle.checkpoint.specs.DiskHeads.{IsInUse}
 use Rattle.checkpoint.specs.Crash.{YieldsUpTo, committed_of}
@@ -36,7 +36,7 @@ use Rattle.checkpoint.proofs.StandLemmas.{stands_as, stands_push, stands_unheard
 use Rattle.checkpoint.proofs.HeadLemmas.{head_headed}
 use Rattle.checkpoint.proofs.YieldLemmas.{row_yields, length-committed, committed_more}
 use Rattle.checkpoint.proofs.YieldLemmas.{yields_more}
-use Rattle.blocks.proofs.Carrying.{joined-append, carries_append}
+use Rattle.records.proofs.Carrying.{joined-append, carries_append}
 use Rattle.checkpoint.proofs.GroupLemmas.{same_groups}
 
 module _ {D : Type 0} (seen : D → List ℕ) (may_leave : D → List ℕ → Type 0)

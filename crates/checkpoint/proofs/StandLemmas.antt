@@ -4,15 +4,15 @@ use Rattle.std.proofs.Common.{arith, append_assoc, inl, inr, ◌⊎◌, ⊎_elim
 use Rattle.std.proofs.lemmas.List.{append-nil}
 use Rattle.calls.specs.declared.format.Format.{Format}
 use Rattle.calls.specs.Contents.{Collection}
-use Rattle.machine.specs.Machines.{resting}
-use Rattle.machine.proofs.Journalled.{GoesUnheard}
-use Rattle.record_format.specs.declared.record.Record.{Record}
-use Rattle.repetition.specs.Steps.{State, Steps, Repeats}
-use Rattle.repetition.specs.Lagging.{Lags}
-use Rattle.repetition.proofs.Lists.{leads_push}
-use Rattle.repetition.proofs.OneFormat.{step_format}
+use Rattle.steps.specs.Machines.{resting}
+use Rattle.steps.proofs.Journalled.{GoesUnheard}
+use Rattle.records.specs.declared.record.Record.{Record}
+use Rattle.replay.specs.Steps.{State, Steps, Repeats}
+use Rattle.replay.specs.Lagging.{Lags}
+use Rattle.replay.proofs.Lists.{leads_push}
+use Rattle.replay.proofs.OneFormat.{step_format}
 use Rattle.checkpoint.specs.Stored.{IsLevel, GoAlong, AreReadTo, StandIn}
-use Rattle.repetition.proofs.LagLemmas.{lags_step, lags_unheard, lags_calls}
+use Rattle.replay.proofs.LagLemmas.{lags_step, lags_unheard, lags_calls}
 
 -- ---- beginnings of lists
 

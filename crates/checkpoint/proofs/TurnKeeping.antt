@@ -19,13 +19,13 @@ use Rattle.gate_block.specs.Row.{IsRow, IsBlockOf, SameOutside}
 use Rattle.gate_block.specs.Area.{base_of, size_of, bytes_of, IsReady, LeavesBlocks}
 use Rattle.gate_block.specs.Layout.{base_in_use}
 use Rattle.gate_block.proofs.Facts.{leaves_blocks_now}
-use Rattle.blocks.specs.declared.block.Block.{Block}
-use Rattle.blocks.proofs.Places.{places_append}
-use Rattle.record_format.specs.declared.record.Record.{Record}
-use Rattle.record_format.specs.Records.{spelling}
-use Rattle.record_format.specs.Acts.{places}
-use Rattle.repetition.specs.Journals.{IsHeader, records_in}
-use Rattle.repetition.specs.Steps.{State}
+use Rattle.records.specs.declared.block.Block.{Block}
+use Rattle.records.proofs.Places.{places_append}
+use Rattle.records.specs.declared.record.Record.{Record}
+use Rattle.records.specs.Records.{spelling}
+use Rattle.records.specs.Acts.{places}
+use Rattle.replay.specs.Journals.{IsHeader, records_in}
+use Rattle.replay.specs.Steps.{State}
 use Rattle.checkpoint.specs.declared.turn.Turn.{Turn}
 use Rattle.checkpoint.specs.declared.laying.Laying.{Laying}
 use Rattle.checkpoint.specs.declared.stage.Ending.{Ending}
@@ -33,7 +33,7 @@ use Rattle.checkpoint.specs.declared.stage.Stage.{Stage}
 use Rattle.checkpoint.specs.Imaging.{IsBeingLaid}
 use Rattle.std.specs.Option.{option_to_list}
 use Rattle.checkpoint.specs.Keepers.{KeeperState, IsPast, OnKept, IsBrought, BringAnswers}
-use Rattle.blocks.specs.Carried.{IsCarried, Carries}
+use Rattle.records.specs.Carried.{IsCarried, Carries}
 use Rattle.checkpoint.specs.DiskHeads.{IsHeaded, HasHead, IsInUse}
 use Rattle.checkpoint.specs.Crash.{YieldsUpTo}
 use Rattle.checkpoint.specs.Keeping.{BegunImage, IsApart, Uncrossed, IsHolding, IsImaging}
@@ -42,8 +42,8 @@ use Rattle.checkpoint.specs.Keeping.{LeavesKept, TurnKeeps}
 use Rattle.checkpoint.proofs.StandLemmas.{same_beginning, shorter_beginning}
 use Rattle.checkpoint.proofs.HeadLemmas.{head_headed, lies_behind, outside_head}
 use Rattle.checkpoint.proofs.YieldLemmas.{row_yields}
-use Rattle.blocks.proofs.Carrying.{joined-append, joined-push, some_record}
-use Rattle.blocks.proofs.Carrying.{carries_append, carries_one, one_carried, carries_parts}
+use Rattle.records.proofs.Carrying.{joined-append, joined-push, some_record}
+use Rattle.records.proofs.Carrying.{carries_append, carries_one, one_carried, carries_parts}
 use Rattle.checkpoint.proofs.GroupLemmas.{same_groups, apart_back, apart_frozen}
 use Rattle.checkpoint.proofs.ReceivedLemmas.{all_carried, all_begin, use_yields, still_kept}
 

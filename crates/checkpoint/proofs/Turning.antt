@@ -9,7 +9,7 @@ use Rattle.calls.specs.declared.refusal.Refusal.{Refusal}
 use Rattle.gate_block.specs.Row.{SameOutside, IsRow}
 use Rattle.gate_block.specs.declared.area.Area.{Area}
 use Rattle.gate_block.specs.Area.{base_of, size_of, IsReady, LeavesBlocks}
-use Rattle.blocks.specs.declared.block.Block.{Block}
+use Rattle.records.specs.declared.block.Block.{Block}
 use Rattle.checkpoint.specs.declared.turn.Turn.{Turn}
 use Rattle.checkpoint.specs.declared.laying.Laying.{Laying}
 use Rattle.checkpoint.specs.declared.stage.Stage.{Stage}

@@ -1,7 +1,7 @@
 -- What bytes that hold blocks of records yield.
 use Rattle.std.proofs.Common.{◌≡◌, ℕ, ◌+◌, ◌≤◌, List, [], ◌∷◌, ◌++◌, length, map, take, drop}
 use Rattle.std.proofs.Common.{append_assoc, length-append, refl, sym, ◌∙◌, ap, subst, arith, None}
-use Rattle.std.proofs.lemmas.List.{take-append-le, take-append-drop}
+use Rattle.std.proofs.lemmas.List.{take-append-le, take-append-drop, take-take}
 use Rattle.std.specs.List.{AllByRecursion}
 use mathlib.Core.List.{IsPrefix}
 use Rattle.calls.specs.declared.format.Format.{Format}
@@ -12,29 +12,29 @@ use Rattle.calls.specs.Transactions.{Leads, calls_of}
 use Rattle.gate_block.specs.declared.area.Area.{Area}
 use Rattle.gate_block.specs.Row.{IsRow, part}
 use Rattle.gate_block.specs.Area.{size_of, bytes_of}
-use Rattle.record_format.specs.declared.record.Record.{Record}
-use Rattle.record_format.specs.Records.{spelling, IsRecord, AreRecords}
-use Rattle.record_format.specs.Acts.{acts_of_record, acts_of, places}
-use Rattle.machine.specs.Machines.{resting}
-use Rattle.machine.specs.Machine.{IsSettled, Does}
-use Rattle.machine.proofs.RecordRuns as played
-use Rattle.machine.proofs.RecordRuns.{gathered, committed_append}
-use Rattle.machine.proofs.Steps as steps
-use Rattle.machine.proofs.LiveNumbers.{nobody}
-use Rattle.machine.proofs.NamedContents.{serial_told}
-use Rattle.blocks.proofs.Places.{places_append}
-use Rattle.repetition.specs.Steps.{State, Steps, Repeats}
-use Rattle.repetition.specs.Reading.{Unread, InJournal, Reads, AreAccepted, IsSound, last_named}
-use Rattle.repetition.specs.Journals.{Holds, records_in, StandsFor}
-use Rattle.repetition.proofs.Lists.{leads_append, flat_map-append}
+use Rattle.records.specs.declared.record.Record.{Record}
+use Rattle.records.specs.Records.{spelling, IsRecord, AreRecords}
+use Rattle.records.specs.Acts.{acts_of_record, acts_of, places}
+use Rattle.steps.specs.Machines.{resting}
+use Rattle.steps.specs.Machine.{IsSettled, Does}
+use Rattle.steps.proofs.RecordRuns as played
+use Rattle.steps.proofs.RecordRuns.{gathered, committed_append}
+use Rattle.steps.proofs.Steps as steps
+use Rattle.steps.proofs.LiveNumbers.{nobody}
+use Rattle.steps.proofs.NamedContents.{serial_told}
+use Rattle.records.proofs.Places.{places_append}
+use Rattle.replay.specs.Steps.{State, Steps, Repeats}
+use Rattle.replay.specs.Reading.{Unread, InJournal, Reads, AreAccepted, IsSound, last_named}
+use Rattle.replay.specs.Journals.{Holds, records_in, StandsFor}
+use Rattle.replay.proofs.Lists.{leads_append, flat_map-append}
 use Rattle.boosted.proofs.Each.{each_front, each_back}
-use Rattle.repetition.proofs.CatalogLaws.{laws}
-use Rattle.repetition.proofs.Formats.{allows_then}
-use Rattle.repetition.proofs.OneFormat.{repeats_format, accepted_on, accepted_holds}
-use Rattle.repetition.proofs.RepeatLemmas.{records_append, read_records}
-use Rattle.repetition.proofs.Parts.{IsParts, journal_reads}
-use Rattle.repetition.proofs.Contents as image
-use Rattle.repetition.proofs.Contents.{parts, on_from_first}
+use Rattle.replay.proofs.CatalogLaws.{laws}
+use Rattle.replay.proofs.Formats.{allows_then}
+use Rattle.replay.proofs.OneFormat.{repeats_format, accepted_on, accepted_holds}
+use Rattle.replay.proofs.RepeatLemmas.{records_append, read_records}
+use Rattle.replay.proofs.Parts.{IsParts, journal_reads}
+use Rattle.replay.proofs.Contents as image
+use Rattle.replay.proofs.Contents.{parts, on_from_first}
 use Rattle.checkpoint.specs.Stored.{IsLevel, StandIn}
 use Rattle.checkpoint.specs.DiskHeads.{IsHeaded}
 use Rattle.checkpoint.specs.Crash.{Yields, YieldsUpTo, committed_of}
@@ -84,6 +84,13 @@ pub take_longer : (A B : List Transaction) (m : ℕ) → IsPrefix A B → m ≤ 
     take m B ≡ take m A
 take_longer A B m p le = ap (take m) (sym p.1) ∙ take-append-le m A p.0 le
 
+-- fewer of a list are a beginning of more of it
+pub prefix_take : (A : List Transaction) (m n : ℕ) → m ≤ n → IsPrefix (take m A) (take n A)
+prefix_take A m n le = (
+  drop m (take n A),
+  ap (λ l. l ++ drop m (take n A)) (sym (take-take m n A le)) ∙ take-append-drop m (take n A),
+)
+
 -- ---- what is yielded of fewer transactions is yielded of more
 
 pub yields_more : (start : List Collection) (ts us : List Transaction) (m : ℕ) (c : List ℕ) →
@@ -98,6 +105,20 @@ yields_more start ts us m c few more y = record {
   holds = subst (λ l. IsPrefix l y.kept) (sym (take_longer ts us m more few)) y.holds;
   serial = y.serial;
 }
+
+-- what is known may be less
+pub yields_fewer : (start : List Collection) (ts known fewer : List Transaction) (c : List ℕ) →
+    IsPrefix fewer known → Yields start ts known c → Yields start ts fewer c
+yields_fewer start ts known fewer c less y =
+    record {
+      sound = y.sound;
+      content = y.content;
+      stands = y.stands;
+      kept = y.kept;
+      begins = y.begins;
+      holds = prefix_trans fewer known y.kept less y.holds;
+      serial = y.serial;
+    }
 
 -- ---- what records lead to
 

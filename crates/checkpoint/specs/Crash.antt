@@ -3,10 +3,10 @@ use Rattle.std.specs.Prelude.{ℕ, List, take}
 use mathlib.Core.List.{IsPrefix}
 use Rattle.calls.specs.Contents.{Collection}
 use Rattle.calls.specs.Transactions.{Transaction, Serial, committed}
-use Rattle.record_format.specs.declared.record.Record.{Record}
-use Rattle.record_format.specs.Acts.{acts_of}
-use Rattle.repetition.specs.Journals.{StandsFor}
-use Rattle.repetition.specs.Reading.{IsSound}
+use Rattle.records.specs.declared.record.Record.{Record}
+use Rattle.records.specs.Acts.{acts_of}
+use Rattle.replay.specs.Journals.{StandsFor}
+use Rattle.replay.specs.Reading.{IsSound}
 
 -- The transactions that the records commit, in the order of their commits.
 abbrev pub committed_of : List Record → List Transaction

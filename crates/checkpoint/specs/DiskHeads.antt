@@ -6,9 +6,9 @@ use Rattle.gate_block.specs.declared.area.Area.{Area}
 use Rattle.gate_block.specs.Area.{base_of, size_of, IsReady}
 use Rattle.gate_block.specs.Layout.{base_in_use}
 use Rattle.gate_block.specs.Layout.{areas_at}
-use Rattle.record_format.specs.declared.record.Record.{Record}
-use Rattle.record_format.specs.Records.{spelling}
-use Rattle.repetition.specs.Journals.{IsHeader}
+use Rattle.records.specs.declared.record.Record.{Record}
+use Rattle.records.specs.Records.{spelling}
+use Rattle.replay.specs.Journals.{IsHeader}
 
 -- The disk has a head, of a version that may have areas of the format, and its root picks the area.
 pub record IsHeaded (format : Format) (area : Area) (bytes : List ℕ) : Type 0 where

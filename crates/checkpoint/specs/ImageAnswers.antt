@@ -5,8 +5,8 @@ use Rattle.std.specs.Prelude.{Vec, Result, Ok, Err}
 use Rattle.std.specs.declared.alloc.Global.{Global}
 use Rattle.calls.specs.declared.refusal.Refusal.{Refusal}
 use Rattle.gate_block.specs.declared.area.Area.{Area}
-use Rattle.gate_block.specs.Area.{has_failed, size_of, position_of}
-use Rattle.blocks.specs.declared.block.Image.{Image}
+use Rattle.gate_block.specs.Area.{has_failed, size_of, offset_of}
+use Rattle.records.specs.declared.block.Image.{Image}
 use Rattle.checkpoint.specs.declared.laying.Laying.{Laying}
 use Rattle.checkpoint.specs.declared.stage.Ending.{Ending}
 use Rattle.checkpoint.specs.declared.stage.Stage.{Stage}
@@ -17,7 +17,7 @@ use Rattle.checkpoint.specs.Keepers.{KeeperState}
 -- the other area, with nothing laid in it
 pub record IsStarted (area began : Area) : Type 0 where
   pub other : IsOther area began
-  pub position : position_of began ≡ 0
+  pub offset : offset_of began ≡ 0
   pub fine : has_failed began ≡ false
 
 -- an end is held from here on; or nothing changes

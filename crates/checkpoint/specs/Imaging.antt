@@ -7,10 +7,10 @@ use Rattle.disk_model.specs.Disk.{Torn}
 use Rattle.gate_block.specs.declared.area.Area.{Area}
 use Rattle.gate_block.specs.Row.{row, IsRow}
 use Rattle.gate_block.specs.Layout.{base_in_use}
-use Rattle.gate_block.specs.Area.{has_failed, base_of, size_of, position_of, bytes_of, IsLaid}
+use Rattle.gate_block.specs.Area.{has_failed, base_of, size_of, offset_of, bytes_of, IsLaid}
 use Rattle.gate_block.specs.Layout.{areas_at, root_at}
-use Rattle.blocks.specs.Wholes.{body_of}
-use Rattle.blocks.specs.declared.block.Image.{Image}
+use Rattle.records.specs.Wholes.{body_of}
+use Rattle.records.specs.declared.block.Image.{Image}
 use Rattle.checkpoint.specs.declared.laying.Laying.{Laying}
 use Rattle.checkpoint.specs.declared.stage.Ending.{Ending}
 use Rattle.checkpoint.specs.declared.stage.Stage.{Stage}
@@ -37,7 +37,7 @@ left_of w = w.image.blocks.items
 pub record IsLaidBeside (area : Area) (failed : Bool) (w : Laying) : Type 0 where
   pub other : IsOther area w.area
   pub fine : failed ≡ false → has_failed w.area ≡ false
-  pub room : position_of w.area + length (row (bodies_of (left_of w))) < size_of w.area
+  pub room : offset_of w.area + length (row (bodies_of (left_of w))) < size_of w.area
 
 -- These are the bodies of an image: its first blocks were laid in the area, and the others are
 -- left.

@@ -5,14 +5,14 @@ use Rattle.calls.specs.declared.refusal.Refusal.{Refusal}
 use Rattle.gate_block.specs.declared.area.Area.{Area}
 use Rattle.gate_block.specs.Area.{has_failed, base_of, size_of}
 use Rattle.gate_block.specs.Layout.{areas_at}
-use Rattle.blocks.specs.declared.block.Block.{Block}
+use Rattle.records.specs.declared.block.Block.{Block}
 use Rattle.checkpoint.specs.declared.turn.Turn.{Turn}
 use Rattle.checkpoint.specs.declared.stage.Stage.{Stage}
 use Rattle.checkpoint.specs.Imaging.{IsBeside}
 
 -- A disk with its area in use, the place up to which commits are kept, a block that was held back,
--- whether the disk has failed, the position up to which the image of the area in use covers the
--- records, and how far it is with an image.
+-- whether the disk has failed, the LSN up to which the image of the area in use covers the records,
+-- and how far it is with an image.
 pub record KeeperState (D : Type 0) : Type 0 where
   pub disk : D
   pub area : Area
@@ -42,11 +42,11 @@ pub record IsFresh {D : Type 0} (k : KeeperState D) : Type 0 where
   pub covers_none : k.covered ≡ 0
   pub no_image : k.stage ≡ Stage.Idle
 
--- The position is past the image that is being written: past the end that is held, or the image's.
+-- The LSN is past the image that is being written: past the end that is held, or the image's.
 abbrev pub IsPast : Stage → ℕ → Type 0
-IsPast Stage.Idle position = ⊥
-IsPast (Stage.Awaited e) position = e.end < position
-IsPast (Stage.Laid w) position = w.image.end < position
+IsPast Stage.Idle lsn = ⊥
+IsPast (Stage.Awaited e) lsn = e.end < lsn
+IsPast (Stage.Laid w) lsn = w.image.end < lsn
 
 -- When a block is appended, and when not: it is kept; it does not fit, is held, and nothing else
 -- changed; or the disk fails.

@@ -10,21 +10,21 @@ use Rattle.calls.specs.declared.refusal.Refusal.{Refusal}
 use Rattle.disk_model.specs.Disk.{LeavesOnly}
 use Rattle.disk_model.specs.declared.disk.Disk.{Ghosts}
 use Rattle.gate_block.specs.declared.area.Area.{Area}
-use Rattle.record_format.specs.declared.record.Record.{Record}
-use Rattle.record_format.specs.Records.{spelling, IsRecord}
-use Rattle.record_format.specs.Acts.{places}
-use Rattle.blocks.specs.declared.block.Block.{Block}
-use Rattle.blocks.specs.declared.block.Image.{Image}
-use Rattle.blocks.specs.Packings.{AreWhole}
-use Rattle.repetition.specs.Journals.{records_in}
-use Rattle.repetition.specs.Steps.{State}
+use Rattle.records.specs.declared.record.Record.{Record}
+use Rattle.records.specs.Records.{spelling, IsRecord}
+use Rattle.records.specs.Acts.{places}
+use Rattle.records.specs.declared.block.Block.{Block}
+use Rattle.records.specs.declared.block.Image.{Image}
+use Rattle.records.specs.Packings.{AreWhole}
+use Rattle.replay.specs.Journals.{records_in}
+use Rattle.replay.specs.Steps.{State}
 use Rattle.checkpoint.specs.declared.laying.Laying.{Laying}
 use Rattle.checkpoint.specs.declared.stage.Ending.{Ending}
 use Rattle.checkpoint.specs.declared.stage.Stage.{Stage}
 use Rattle.checkpoint.specs.Imaging.{IsOther, IsBeingLaid}
 use Rattle.std.specs.Option.{option_to_list}
 use Rattle.checkpoint.specs.Keepers.{KeeperState}
-use Rattle.blocks.specs.Carried.{Carries}
+use Rattle.records.specs.Carried.{Carries}
 use Rattle.checkpoint.specs.Stored.{StandIn}
 use Rattle.checkpoint.specs.DiskHeads.{IsInUse}
 use Rattle.checkpoint.specs.Crash.{YieldsUpTo}
@@ -47,20 +47,19 @@ AreImagesFor [] [] = Unit {0}
 AreImagesFor (image ∷ images) (b ∷ begun) = IsImageFor image b × AreImagesFor images begun
 AreImagesFor images begun = ⊥
 
--- No block, of those that begin behind so many records, has records from both sides of the
--- position.
-abbrev pub IsApart : (front : ℕ) → List (List Record) → (position : ℕ) → Type 0
-IsApart front [] position = Unit {0}
-IsApart front (rs ∷ groups) position =
-    ((position ≤ front) ⊎ (front + length rs ≤ position))
-    × IsApart (front + length rs) groups position
+-- No block, of those that begin behind so many records, has records from both sides of the LSN.
+abbrev pub IsApart : (front : ℕ) → List (List Record) → (lsn : ℕ) → Type 0
+IsApart front [] lsn = Unit {0}
+IsApart front (rs ∷ groups) lsn =
+    ((lsn ≤ front) ⊎ (front + length rs ≤ lsn))
+    × IsApart (front + length rs) groups lsn
 
--- No block has records from both sides of one of the positions.
+-- No block has records from both sides of one of the LSNs.
 abbrev pub Uncrossed : (freezes : List ℕ) → List (List Record) → Type 0
 Uncrossed freezes groups = All (λ p. IsApart 0 groups p) freezes
 
--- An end is held. It is a position at which the book was frozen, and no record that is kept is past
--- it: so many are kept by the area in use.
+-- An end is held. It is a LSN at which the book was frozen, and no record that is kept is past it:
+-- so many are kept by the area in use.
 pub record IsHolding (freezes : List ℕ) (stored : ℕ) (ending : Ending) : Type 0 where
   pub frozen : Contains freezes ending.end
   pub ahead : stored ≤ ending.end
@@ -87,8 +86,8 @@ pub record IsImaging {D : Type 0} (seen : D → List ℕ) (format : Format) (sta
 
 -- The keeper was opened over a content with no live transaction, with this wear, and has received
 -- these blocks since, the held one last. Their records begin all records of the book's history so
--- far, which lead to the state now. The book was frozen at these positions, where no block crosses,
--- and these images were begun, each at one of them. A stop now leaves what `Yields` says of the
+-- far, which lead to the state now. The book was frozen at these LSNs, where no block crosses, and
+-- these images were begun, each at one of them. A stop now leaves what `Yields` says of the
 -- transactions that the mark tells.
 pub record HasReceived {D : Type 0} (seen : D → List ℕ) (may_leave : D → List ℕ → Type 0)
     (format : Format) (start : List Collection) (wear : ℕ) (records : List Record) (now : State)
@@ -148,7 +147,7 @@ LeavesKept g start records k l = LeavesOnly g.moment g.left_since k.disk l.disk
     (YieldsUpTo start records k.mark)
 
 -- The keeper has received the blocks that it took from its inbox too. They carry records that go on
--- with those before, and no block crosses a position at which the book was frozen.
+-- with those before, and no block crosses a LSN at which the book was frozen.
 abbrev pub TurnKeeps : {D : Type 0} → Ghosts D → (receives : List Block → Type 0) →
     KeeperState D → KeeperState D → Type 0
 TurnKeeps g receives k l =
@@ -161,7 +160,7 @@ TurnKeeps g receives k l =
     HasReceived g.seen g.may_leave format start wear records now freezes images (received ++ more) l
     × LeavesKept g start records k l
 
--- the positions, where this one was held, or refused
+-- the LSNs, where this one was held, or refused
 abbrev pub held_with : ℕ → List ℕ → Result (Unit {0}) Refusal → List ℕ
 held_with end freezes (Ok done) = end ∷ freezes
 held_with end freezes (Err e) = freezes

@@ -3,13 +3,13 @@ use Rattle.std.specs.Prelude.{◌≡◌, ℕ, List, ◌++◌, map, None}
 use Rattle.calls.specs.declared.format.Format.{Format}
 use Rattle.calls.specs.Contents.{Collection}
 use Rattle.calls.specs.Transactions.{calls_of}
-use Rattle.record_format.specs.declared.record.Record.{Record}
-use Rattle.record_format.specs.Records.{AreRecords}
-use Rattle.machine.specs.Machines.{resting}
-use Rattle.repetition.specs.Journals.{records_in}
-use Rattle.repetition.specs.Steps.{State, Repeats}
-use Rattle.repetition.specs.Reading.{AreAccepted}
-use Rattle.repetition.specs.Lagging.{Lags}
+use Rattle.records.specs.declared.record.Record.{Record}
+use Rattle.records.specs.Records.{AreRecords}
+use Rattle.steps.specs.Machines.{resting}
+use Rattle.replay.specs.Journals.{records_in}
+use Rattle.replay.specs.Steps.{State, Repeats}
+use Rattle.replay.specs.Reading.{AreAccepted}
+use Rattle.replay.specs.Lagging.{Lags}
 
 -- ---- what blocks of a disk stand for
 

@@ -1,8 +1,8 @@
 // Where the keeper takes blocks from.
 ghost use Rattle.std.specs.Prelude.{◌≡◌, List, ◌∷◌, [], IfSome, IfNone};
-ghost use Rattle.blocks.specs.declared.block.Block.{Block};
+ghost use Rattle.records.specs.declared.block.Block.{Block};
 
-use blocks::Block;
+use records::Block;
 
 /// Where the keeper takes blocks from: the end of a hand-over that receives.
 pub trait Inbox {

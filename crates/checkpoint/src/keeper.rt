@@ -3,9 +3,9 @@ ghost use Rattle.std.specs.Prelude.{◌≡◌, ◌≢◌, ◌<◌, ◌≤◌, �
 ghost use Rattle.std.specs.Prelude.{length, OnOk, IfSome, IfNone, None, false};
 ghost use Rattle.disk_model.specs.Disk.{Torn, IsAtRest, LeavesOnly, Rises};
 ghost use Rattle.gate_block.specs.Row.{IsBlockOf, SameOutside};
-ghost use Rattle.gate_block.specs.Area.{has_failed, base_of, size_of, position_of, IsReady};
+ghost use Rattle.gate_block.specs.Area.{has_failed, base_of, size_of, offset_of, IsReady};
 ghost use Rattle.gate_block.specs.Area.{LeavesBlocks, LeavesElsewhere};
-ghost use Rattle.blocks.specs.declared.block.Block.{Block};
+ghost use Rattle.records.specs.declared.block.Block.{Block};
 ghost use Rattle.checkpoint.specs.declared.laying.Laying.{Laying};
 ghost use Rattle.checkpoint.specs.declared.stage.Stage.{Stage};
 ghost use Rattle.checkpoint.specs.Imaging.{IsLaidBeside, HasPiece, IsBeingLaid};
@@ -25,14 +25,14 @@ use crate::laying::{Laying, is_too_long, other_area};
 use crate::root::pick_area;
 use crate::stage::{Ending, Stage};
 use crate::turn::Turn;
-use blocks::{Block, Image};
 use calls::Refusal;
 use disk_model::Disk;
 use gate_block::Area;
+use records::{Block, Image};
 use std::marker::Model;
 
-/// A disk with its area in use, the mark, a block that was held back, the position up to which the
-/// image of the area covers the records, and how far it is with an image.
+/// A disk with its area in use, the mark, a block that was held back, the LSN up to which the image
+/// of the area covers the records, and how far it is with an image.
 ///
 /// The area is one of the two of the disk, and the image goes into the other one. Contracts see the
 /// keeper as a `KeeperState`.
@@ -144,7 +144,7 @@ impl<D: Disk> Keeper<D> {
         &self.area
     }
 
-    /// The position up to which the image of the area in use covers the records: 0 before the first
+    /// The LSN up to which the image of the area in use covers the records: 0 before the first
     /// flip.
     pub fn covered(&self) -> u64
         ensures { result ≡ self.now.covered }
@@ -165,7 +165,7 @@ impl<D: Disk> Keeper<D> {
         requires held { self.old.held ≡ None }
         requires failed { self.old.failed ≡ false }
         ensures answer { AppendAnswers block self.old.mark
-            (size_of self.old.area < position_of self.old.area + length block.bytes.items)
+            (size_of self.old.area < offset_of self.old.area + length block.bytes.items)
             ((self.new.area ≡ self.old.area) × (self.new.disk ≡ self.old.disk))
             (Rises (D.fault_count self.old.disk) (D.fault_count self.new.disk))
             result self.new.held self.new.mark self.new.failed }
@@ -211,7 +211,7 @@ impl<D: Disk> Keeper<D> {
         requires failed { self.old.failed ≡ false }
         ensures answer { BringAnswers block self.old.mark
             (block.end ≤ self.old.covered) (IsPast self.old.stage block.end)
-            (size_of self.old.area < position_of self.old.area + length block.bytes.items)
+            (size_of self.old.area < offset_of self.old.area + length block.bytes.items)
             ((self.new.area ≡ self.old.area) × (self.new.disk ≡ self.old.disk))
             (Rises (D.fault_count self.old.disk) (D.fault_count self.new.disk))
             result self.new.held self.new.mark self.new.failed }
@@ -263,7 +263,7 @@ impl<D: Disk> Keeper<D> {
         ensures answer { TurnAnswers self.old.held (λ bs. I.receives inbox.old bs inbox.new)
             (I.was_empty inbox.old inbox.new) self.old.failed self.old.mark
             (λ b. b.end ≤ self.old.covered) (λ b. IsPast self.old.stage b.end)
-            (λ b. size_of self.old.area < position_of self.old.area + length b.bytes.items)
+            (λ b. size_of self.old.area < offset_of self.old.area + length b.bytes.items)
             ((self.new.area ≡ self.old.area) × (self.new.disk ≡ self.old.disk))
             (Rises (D.fault_count self.old.disk) (D.fault_count self.new.disk))
             result self.new.held self.new.mark self.new.failed }

@@ -3,16 +3,16 @@ ghost use Rattle.std.specs.Prelude.{◌≡◌, ◌↔◌, ◌<◌, ◌≤◌, �
 ghost use Rattle.std.specs.Prelude.{IsTrue, OnOk, OnErr, IfOk, IfErr};
 ghost use Rattle.disk_model.specs.Disk.{LeavesOnly, Rises};
 ghost use Rattle.gate_block.specs.Row.{row, SameOutside};
-ghost use Rattle.gate_block.specs.Area.{base_of, size_of, position_of, has_failed, LeavesElsewhere};
+ghost use Rattle.gate_block.specs.Area.{base_of, size_of, offset_of, has_failed, LeavesElsewhere};
 ghost use Rattle.checkpoint.specs.Imaging.{IsTooLong, IsBeingLaid, bodies_of, left_of};
 ghost use Rattle.checkpoint.specs.Keepers.{IsOneOfTwo};
 ghost use Rattle.checkpoint.specs.ImageAnswers.{IsStarted, IsOneFewer, IsAsMany};
 
-use blocks::Image;
 use calls::Refusal;
 use disk_model::Disk;
 use gate_block::Area;
 use gate_block::layout::AREAS_AT;
+use records::Image;
 
 /// The area that an image is laid into, and the image, with those of its blocks that are not yet
 /// written.
@@ -35,7 +35,7 @@ impl Laying {
     pub fn lay_next<D: Disk>(&mut self, disk: &mut D) -> Result<bool, Refusal>
         requires piece { 1 ≤ length (left_of self.old) }
         requires fine { has_failed self.old.area ≡ false }
-        requires room { position_of self.old.area + length (row (bodies_of (left_of self.old))) <
+        requires room { offset_of self.old.area + length (row (bodies_of (left_of self.old))) <
             size_of self.old.area }
         requires disk { base_of self.old.area + size_of self.old.area ≤ length (D.seen disk.old) }
         ensures written { IfOk result (λ more. IsOneFewer self.old self.new more) }
@@ -43,7 +43,7 @@ impl Laying {
             Rises (D.fault_count disk.old) (D.fault_count disk.new)) }
         ensures stays { OnErr result (IsAsMany self.old self.new) }
         ensures fine { OnOk result (has_failed self.new.area ≡ false) }
-        ensures room { position_of self.new.area + length (row (bodies_of (left_of self.new))) <
+        ensures room { offset_of self.new.area + length (row (bodies_of (left_of self.new))) <
             size_of self.new.area }
         ensures laid { (bodies : List (List ℕ)) → IsBeingLaid self.old (D.seen disk.old) bodies →
             OnOk result (IsBeingLaid self.new (D.seen disk.new) bodies) }

@@ -12,8 +12,8 @@
 //! commit gives, with all that the mark told.
 //!
 //! Contracts see a keeper as a `KeeperState`: its disk, the area in use, the mark (the place up to
-//! which commits are kept), the block that was held back, whether the disk has failed, the position
-//! up to which the image of the area in use covers the records, and how far it is with an image.
+//! which commits are kept), the block that was held back, whether the disk has failed, the LSN up
+//! to which the image of the area in use covers the records, and how far it is with an image.
 #![tactic(auto)]
 
 mod inbox;

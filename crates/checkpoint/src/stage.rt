@@ -5,8 +5,8 @@ ghost use Rattle.checkpoint.specs.Keepers.{IsPast};
 ghost use Rattle.checkpoint.specs.ImageAnswers.{AskAnswers};
 
 use crate::laying::Laying;
-use blocks::Image;
 use calls::Refusal;
+use records::Image;
 use std::mem;
 
 /// Where an image ends: how many records it covers, and how many commits and makings they hold.

@@ -5,15 +5,15 @@ use Rattle.std.proofs.Common.{Result, Ok, Err}
 use Rattle.calls.specs.declared.refusal.Refusal.{Refusal}
 use Rattle.std.proofs.lemmas.List.{append-nil, map-append, replicate-append-replicate}
 use Rattle.std.proofs.lemmas.List.Elements.{Contains-append_right}
-use Rattle.txn.specs.declared.steps.Action.{Action}
-use Rattle.txn.specs.declared.steps.BookStep.{BookStep}
+use Rattle.txn.specs.declared.actions.Action.{Action}
+use Rattle.txn.specs.declared.actions.BookStep.{BookStep}
 use Rattle.group_commit.specs.Lines.{IsLonger, ClientState, seeing, steps_of}
 use Rattle.group_commit.specs.Marks.{WatcherState}
 use Rattle.group_commit.specs.Numbers.{DrawerState}
 use Rattle.group_commit.specs.declared.mark.Raised.{Raised}
 use Rattle.desks.specs.declared.naming.Naming.{Ghosts}
 use Rattle.clients.specs.declared.phase.Phase.{Phase}
-use Rattle.clients.specs.Calls.{IsClient, HasOwn, Moves, Acts, Does, Enters, IsEntering, IsOpen}
+use Rattle.clients.specs.Calls.{IsClient, HasOwn, Moves, Acts, Does, Enters, IsEntering}
 use Rattle.clients.specs.Calls.{number_in}
 use Rattle.clients.specs.Calls.{back, backs, Hears, Decides, Waits}
 use Rattle.desks.specs.Seen.{step_of, IsSeen, Grows, Took, Steps}
@@ -175,13 +175,6 @@ module _ {J : Type 0} (j : Ghosts J) where
       more.1.1) (subst (λ q. IsEntering j.origin q mid new) (enters_phase p old mid n at entered.1)
       again) in
       inr (n, subst (λ k. Enters j.origin p old (Ok n) k) (sym stays) entered.1)) entering
-
-  pub entering_open : (p : Phase) (old new : Known) → old.phase ≡ p → IsOpen p →
-      IsEntering j.origin p old new → IsOpen new.phase
-  entering_open p old new at is entering = ⊎_elim
-      (λ same. subst IsOpen (sym (ap (λ (k : Known). k.phase) same ∙ at)) is)
-      (λ (entered : (n : ℕ) × Enters j.origin p old (Ok n) new).
-      subst IsOpen (sym (enters_phase p old new entered.0 at entered.1)) tt) entering
 
   -- One that is refused as another is.
   pub does_refused_so : (p : Phase) (old new : Known) (own : ℕ → Action → Type 0)

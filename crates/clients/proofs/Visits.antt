@@ -1,11 +1,11 @@
 -- What a client knows behind a visit under the locks, for which its number was entered.
 use Rattle.std.proofs.Common.{◌≡◌, ℕ, [], ◌∷◌, ◌++◌, Result, Ok, Err, Option, None, Some, IfErr}
 use Rattle.std.proofs.Common.{OnOk, IfSome}
-use Rattle.std.proofs.Common.{IsNone, inr, refl, sym, ap, ◌∙◌, subst}
+use Rattle.std.proofs.Common.{IsNone, refl, sym, ap, ◌∙◌, subst}
 use Rattle.std.specs.Prelude.{Contains}
 use Rattle.std.proofs.lemmas.List.Elements.{Contains-append_left, Contains-push}
 use Rattle.calls.specs.declared.refusal.Refusal.{Refusal}
-use Rattle.txn.specs.declared.steps.Action.{Action}
+use Rattle.txn.specs.declared.actions.Action.{Action}
 use Rattle.group_commit.specs.Lines.{ClientState, mine_of, steps_of}
 use Rattle.group_commit.specs.Marks.{WatcherState}
 use Rattle.group_commit.specs.Numbers.{DrawerState, with_number}
@@ -14,20 +14,12 @@ use Rattle.clients.specs.declared.phase.Phase.{Phase}
 use Rattle.desks.specs.Seen.{step_of, Steps}
 use Rattle.clients.specs.Known.{Known, known_of}
 use Rattle.desks.specs.Owners.{entering, HasEntered}
-use Rattle.clients.specs.Calls.{Acts, Does, Enters, IsClient, HasOwn, IsEntering}
+use Rattle.clients.specs.Calls.{Acts, Does, Enters, IsClient, HasOwn}
 use Rattle.clients.proofs.Seeing.{acts_one, client_meets, does_next, enters_phase}
 
 module _ {J : Type 0} (j : Ghosts J) (old mid : Known) (n : ℕ)
     (enters : Enters j.origin old.phase old (Ok n) mid) (line : ClientState) (w : WatcherState)
     (d : DrawerState) (p : Phase) (view : known_of line w d p ≡ mid) (line' : ClientState) where
-  -- Nothing happened but the entering.
-  pub entered_so : line' ≡ line → IsEntering j.origin old.phase old (known_of line' w d p)
-  entered_so same = inr (
-    n,
-    subst (Enters j.origin old.phase old (Ok n))
-        (sym (ap (λ (l : ClientState). known_of l w d p) same ∙ view)) enters,
-  )
-
   took : (own : ℕ → Action → Type 0) (refused : Refusal → Type 0) (after : ℕ → Phase) (q : Phase)
       (action : Action) → own n action → Steps j.origin line action line' →
       (p ≡ Phase.Entered n → q ≡ after n) →
@@ -116,11 +108,6 @@ module _ {J : Type 0} (j : Ghosts J) (old new : ClientState) (w : WatcherState) 
       IsClient j new w d q
   steps_into q action steps own =
       client_meets j old new w d d p q new.seen is steps.1.grows.legal steps.0 refl own
-
-  -- where it closes
-  pub closes_on : (action : Action) → Steps j.origin old action new →
-      IsClient j new w d Phase.Closed
-  closes_on action steps = steps_into Phase.Closed action steps tt
 
   -- where it is entered
   pub enters_on : (n : ℕ) → Steps j.origin old (Action.Enter n (Ok tt)) new →

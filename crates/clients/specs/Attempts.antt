@@ -4,7 +4,7 @@ use Rattle.std.specs.Prelude.{Result, MatchResult}
 use Rattle.std.specs.List.{AllByRecursion}
 use Rattle.calls.specs.declared.refusal.Refusal.{Refusal}
 use Rattle.group_commit.specs.Lines.{steps_of}
-use Rattle.txn.specs.declared.steps.Action.{Action}
+use Rattle.txn.specs.declared.actions.Action.{Action}
 use Rattle.desks.specs.Origins.{Origin}
 use Rattle.clients.specs.declared.phase.Phase.{Phase}
 use Rattle.clients.specs.Calls.{Moves}

@@ -3,7 +3,7 @@ ghost use Rattle.std.specs.Prelude.{◌≡◌, Err, IfOk, IfErr, IfSome, IsNone,
 ghost use Rattle.catalog.specs.Fours.{which_of};
 ghost use Rattle.calls.specs.declared.reply.Reply.{Reply};
 ghost use Rattle.calls.specs.declared.when.When.{When};
-ghost use Rattle.shelf.specs.Looks.{IsLooked};
+ghost use Rattle.steps.specs.Looks.{IsLooked};
 ghost use Rattle.clients.specs.declared.phase.Phase.{Phase};
 ghost use Rattle.clients.specs.Calls.{IsOpen, Does, DoesInRoom, IsEntering, number_in, replied};
 ghost use Rattle.clients.specs.Calls.{AsksFor};
@@ -13,10 +13,10 @@ use crate::miss::Miss;
 use crate::phase::Phase;
 use crate::request::Request;
 use calls::{Call, Refusal, Reply, When};
-use desks::{Change, Desk, Footprint, Handle, Lock, Naming, Quarter, ShelfDesk};
+use desks::{Change, Desk, Footprint, Handle, Lock, Naming, Order, Quarter, ShelfDesk};
 use records::Coded;
-use shelf::Looked;
 use std::sync::Wait;
+use steps::Looked;
 
 impl<'s, J: Naming, B: Coded> Client<'s, J, B> {
     /// Makes a call of the client's transaction on the collection of the name at once, and gives
@@ -119,7 +119,7 @@ impl<'s, J: Naming, B: Coded> Client<'s, J, B> {
             return Ok(at);
         }
         let mutex = self.desk;
-        let mut desk = mutex.lock(rt);
+        let mut desk = mutex.lock(rt, &mut Order::new());
         self.find(&mut desk, request)
     }
 
@@ -188,7 +188,8 @@ impl<'s, J: Naming, B: Coded> Client<'s, J, B> {
             IfOk r (λ reply. request.now.when ≡ When.AtCommit → reply ≡ Reply.Done)) }
         ensures miss { OnErr result (IsEntering J.origin self.old.phase self.old self.new) }
     {
-        let mut held = lock.lock(rt);
+        let mut order = Order::new();
+        let mut held = lock.lock(rt, &mut order);
         let looked = held.look(
             self.shared.format,
             self.number(),
@@ -197,7 +198,7 @@ impl<'s, J: Naming, B: Coded> Client<'s, J, B> {
             request.when,
         );
         let mutex = self.desk;
-        let mut desk = mutex.lock(rt);
+        let mut desk = mutex.lock(rt, &mut order);
         self.check_room(&desk, Footprint::of_ask(request.call, request.when))?;
         let answer = self.ask_held(&mut desk, &mut held, request, at, looked);
         note_answer(&mut desk, request, &answer);

@@ -16,7 +16,7 @@ use std::sync::Wait;
 pub trait Attempt {
     ghost use Rattle.std.specs.Prelude.{◌≡◌, List, Err};
     ghost use Rattle.calls.specs.declared.when.When.{When};
-    ghost use Rattle.txn.specs.declared.steps.Action.{Action};
+    ghost use Rattle.txn.specs.declared.actions.Action.{Action};
     ghost use Rattle.clients.specs.Attempts.{Adds};
     ghost use Rattle.clients.specs.Calls.{AsksFor, replied};
 
@@ -39,7 +39,7 @@ pub trait Attempt {
 pub trait Transaction {
     ghost use Rattle.std.specs.Prelude.{◌≡◌, [], List, IfOk, IfErr, ⊤};
     ghost use Rattle.calls.specs.declared.refusal.Refusal.{Refusal};
-    ghost use Rattle.txn.specs.declared.steps.Action.{Action};
+    ghost use Rattle.txn.specs.declared.actions.Action.{Action};
 
     type Output: Drop;
 

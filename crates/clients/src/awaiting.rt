@@ -9,8 +9,8 @@ use records::Coded;
 use std::rt::Clock;
 use std::sync::Wait;
 
-/// What a client's transaction asked for, also once it has ended, and where the client stands in the
-/// line of those who wait. Contracts say nothing of it.
+/// What a client's transaction asked for, also once it has ended, and where the client stands in
+/// the line of those who wait. Contracts say nothing of it.
 #[derive(Clone, Copy)]
 pub(crate) struct Awaiting {
     asked: Asked,
@@ -81,11 +81,11 @@ fn is_change(request: &Request<'_>, reply: &Reply) -> bool {
 
 impl<J: Naming, B: Coded> Client<'_, J, B> {
     /// Has the client wait in line, before its first try at what it may have to wait for: so a
-    /// change is not missed that comes while it tries. Clients that give the same number ask for the
-    /// same thing: of those the first in line alone is woken. Where one of them has waited for a tenth
-    /// of a second and is called, it sleeps until it is called itself, for a tenth of a second at
-    /// most. A line has 64 seats; who finds none tries again and again, with a pause. It takes no
-    /// memory.
+    /// change is not missed that comes while it tries. Clients that give the same number ask for
+    /// the same thing: of those the first in line alone is woken. Where one of them has waited for
+    /// a tenth of a second and is called, it sleeps until it is called itself, for a tenth of a
+    /// second at most. A line has 64 seats; who finds none tries again and again, with a pause. It
+    /// takes no memory.
     ///
     /// ```text
     /// client.line_up(rt, alike);
@@ -104,17 +104,17 @@ impl<J: Naming, B: Coded> Client<'_, J, B> {
         self.awaiting.place = self.shared.waiting.line_up(rt, alike);
     }
 
-    /// Sleeps until another try may be worth it, or until then: true where it may be. Where the last
-    /// transaction that the client began was refused Busy, it is once the transaction that was in the
-    /// way has ended; else once another one that changed a collection which it had asked for was
-    /// committed. What ended since the client lined up, or since this call last answered, counts.
-    /// It may be true for nothing. Call it of a client without an open transaction, as it sleeps
-    /// with its locks else. It takes no memory.
+    /// Sleeps until another try may be worth it, or until then: true where it may be. Where the
+    /// last transaction that the client began was refused Busy, it is once the transaction that was
+    /// in the way has ended; else once another one that changed a collection which it had asked for
+    /// was committed. What ended since the client lined up, or since this call last answered,
+    /// counts. It may be true for nothing. Call it of a client without an open transaction, as it
+    /// sleeps with its locks else. It takes no memory.
     ///
-    /// A client that has waited for a tenth of a second goes before others that begin a transaction:
-    /// where somebody was in its way, these stand back before their first call of a collection that it
-    /// asked for, for a tenth of a second at most; where it found nothing and is called, those alone
-    /// that may take something out.
+    /// A client that has waited for a tenth of a second goes before others that begin a
+    /// transaction: where somebody was in its way, these stand back before their first call of a
+    /// collection that it asked for, for a tenth of a second at most; where it found nothing and is
+    /// called, those alone that may take something out.
     pub fn await_change<R: Wait + Clock>(&mut self, rt: &R, until: Moment) -> bool
         ensures { self.new ≡ self.old }
     {

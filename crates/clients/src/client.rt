@@ -6,7 +6,7 @@ ghost use Rattle.group_commit.specs.Lines.{IsLonger, steps_of};
 ghost use Rattle.group_commit.specs.Numbers.{AreApart};
 ghost use Rattle.clients.specs.declared.phase.Phase.{Phase};
 ghost use Rattle.desks.specs.Seen.{IsSeen};
-ghost use Rattle.clients.specs.Known.{newcomer};
+ghost use Rattle.clients.specs.Known.{newcomer, left_by};
 ghost use Rattle.clients.specs.Calls.{IsOpen, IsWorn, Draws, Enters, number_in};
 
 use crate::awaiting::Awaiting;
@@ -16,7 +16,7 @@ use crate::phase::Phase;
 use crate::seen::Seen;
 use calls::Refusal;
 use catalog::{Catalog, Four};
-use desks::{Admission, Desk, Footprint, Lock, Naming, Shared, Shelves, Status};
+use desks::{Admission, Desk, Footprint, Lock, Naming, Order, Shared, Shelves, Status};
 use group_commit::{ClientSeat, Drawer, Watcher};
 use records::Coded;
 use std::alloc::Global;
@@ -233,8 +233,7 @@ impl<'s, J: Naming, B: Coded> Client<'s, J, B> {
     /// stays live and keeps its locks; it is undone when the disk is opened again. Commit or abort
     /// it before.
     pub fn leave(self) -> Seen<J>
-        ensures { (result.number ≡ self.entry.number) × (result.seen ≡ self.entry.seen) ×
-            (result.counts ≡ self.entry.counts) }
+        ensures { result ≡ left_by self.entry }
     {
         let Self {
             shelves: _shelves,
@@ -252,7 +251,7 @@ impl<'s, J: Naming, B: Coded> Client<'s, J, B> {
         } = self;
         awaiting.abandon(&shared.waiting);
         drop(drawer);
-        Seen::new(line, watcher)
+        Seen::new(line.into_crowd(), watcher)
     }
 
     /// How the store stands. It is answered at once, whether the client has a transaction or not:
@@ -268,14 +267,17 @@ impl<'s, J: Naming, B: Coded> Client<'s, J, B> {
         ensures { IsOkUnless result Refusal.NoMemory }
     {
         let (shelves, mutex) = (self.shelves, self.desk);
-        let mut held = shelves.lock_all(rt);
-        let mut desk = mutex.lock(rt);
-        desk.status(alloc, shelves, &mut held)
+        let mut order = Order::new();
+        let mut held = shelves.lock_all(rt, &mut order);
+        let mut desk = mutex.lock(rt, &mut order);
+        desk.status(alloc, shelves, self.shared, &mut held)
     }
 }
 
 // The same for each shelf.
-pub(crate) fn each(is: bool) -> Four<bool> {
+pub(crate) fn each(is: bool) -> Four<bool>
+    ensures { result ≡ record { first = is; second = is; third = is; fourth = is } }
+{
     Four {
         first: is,
         second: is,

@@ -1,9 +1,9 @@
 // Ends of a client's transactions: commits and aborts.
 ghost use Rattle.std.specs.Prelude.{◌≡◌, ℕ, [], ◌∷◌, ◌++◌, Ok, Err, ◌⊎◌, false, IfErr, IfSome};
-ghost use Rattle.std.specs.Prelude.{IsNone, OnOk};
+ghost use Rattle.std.specs.Prelude.{IsNone, IsSome, IsTrue, OnOk};
 ghost use Rattle.catalog.specs.Fours.{which_of};
 ghost use Rattle.calls.specs.declared.refusal.Refusal.{Refusal};
-ghost use Rattle.txn.specs.declared.steps.Action.{Action};
+ghost use Rattle.txn.specs.declared.actions.Action.{Action};
 ghost use Rattle.clients.specs.declared.phase.Phase.{Phase};
 ghost use Rattle.clients.specs.Calls.{IsOpen, IsEnded, Acts, Does, Undoes, Aborts, IsEntering};
 ghost use Rattle.clients.specs.Calls.{ended_by, placed, back, backs};
@@ -13,7 +13,7 @@ use crate::phase::Phase;
 use crate::ticket::Ticket;
 use calls::Refusal;
 use catalog::Four;
-use desks::{Desk, Handle, Held, Lock, Naming, Quarter, ShelfDesk};
+use desks::{Desk, Handle, Held, Lock, Naming, Order, Quarter, ShelfDesk};
 use records::Coded;
 use std::sync::Wait;
 
@@ -40,15 +40,39 @@ impl<'s, J: Naming, B: Coded> Client<'s, J, B> {
     {
         self.shared.signal.let_drain(rt);
         let number = self.number();
-        let mut wanted = self.wanted();
-        for _ in rt.forever() {
-            if let Some(placed) = self.commit_on(rt, &wanted) {
-                self.tell_commit(rt, number, placed.is_ok());
-                return placed;
-            }
-            wanted = each(true);
+        let placed = self.commit_on_few(rt);
+        self.tell_commit(rt, number, placed.is_ok());
+        placed
+    }
+
+    // Commits the transaction under the locks of the shelves on which it is known to have asked for
+    // something, and where these were not enough, of all.
+    fn commit_on_few<R: Wait>(&mut self, rt: &R) -> Result<Ticket, Refusal>
+        requires { IsOpen self.old.phase }
+        ensures step { Does J.origin self.old.phase self.old
+            (λ n a. a ≡ Action.Commit n (placed result)) (λ e. result ≡ Err e) (ended_by result)
+            self.new }
+        ensures phase { IsEnded result self.new.phase }
+    {
+        let wanted = self.wanted();
+        match self.commit_on(rt, &wanted) {
+            Some(placed) => placed,
+            None => self.commit_on_all(rt),
         }
-        unreachable!()
+    }
+
+    // Commits the transaction under the locks of all shelves and the journal's.
+    fn commit_on_all<R: Wait>(&mut self, rt: &R) -> Result<Ticket, Refusal>
+        requires { IsOpen self.old.phase }
+        ensures step { Does J.origin self.old.phase self.old
+            (λ n a. a ≡ Action.Commit n (placed result)) (λ e. result ≡ Err e) (ended_by result)
+            self.new }
+        ensures phase { IsEnded result self.new.phase }
+    {
+        let Some(placed) = self.commit_on(rt, &each(true)) else {
+            unreachable!();
+        };
+        placed
     }
 
     // Commits the transaction under the locks of these shelves and the journal's. None where it
@@ -60,10 +84,13 @@ impl<'s, J: Naming, B: Coded> Client<'s, J, B> {
         ensures phase { IfSome result (λ r. IsEnded r self.new.phase) }
         ensures none { IsNone result →
             IsEntering J.origin self.old.phase self.old self.new }
+        ensures all { IsTrue wanted.now.first → IsTrue wanted.now.second →
+            IsTrue wanted.now.third → IsTrue wanted.now.fourth → IsSome result }
     {
         let (shelves, mutex) = (self.shelves, self.desk);
-        let mut held = shelves.lock_some(rt, wanted);
-        let mut desk = mutex.lock(rt);
+        let mut order = Order::new();
+        let mut held = shelves.lock_some(rt, wanted, &mut order);
+        let mut desk = mutex.lock(rt, &mut order);
         self.commit_held(&mut desk, &mut held)
     }
 
@@ -79,6 +106,8 @@ impl<'s, J: Naming, B: Coded> Client<'s, J, B> {
         ensures phase { IfSome result (λ r. IsEnded r self.new.phase) }
         ensures none { IsNone result →
             IsEntering J.origin self.old.phase self.old self.new }
+        ensures all { IsSome held.old.first → IsSome held.old.second → IsSome held.old.third →
+            IsSome held.old.fourth → IsSome result }
     {
         let number = match self.enter(desk) {
             Ok(number) => number,
@@ -155,8 +184,9 @@ impl<'s, J: Naming, B: Coded> Client<'s, J, B> {
         ensures phase { self.new.phase ≡ ended_by result number }
     {
         let (shelves, mutex) = (self.shelves, self.desk);
-        let mut held = shelves.lock_all(rt);
-        let mut desk = mutex.lock(rt);
+        let mut order = Order::new();
+        let mut held = shelves.lock_all(rt, &mut order);
+        let mut desk = mutex.lock(rt, &mut order);
         let slot = self.slot;
         let handle = Handle { number, slot };
         desk.ended(shelves, self.shared, &mut self.line, &mut held, handle)?;
@@ -208,7 +238,7 @@ impl<'s, J: Naming, B: Coded> Client<'s, J, B> {
         ensures phase { self.new.phase ≡ self.old.phase }
     {
         let mutex = self.desk;
-        let mut desk = mutex.lock(rt);
+        let mut desk = mutex.lock(rt, &mut Order::new());
         let slot = self.slot;
         desk.find_newest(self.shared, &mut self.line, Handle { number, slot })
     }
@@ -251,8 +281,9 @@ impl<'s, J: Naming, B: Coded> Client<'s, J, B> {
         ensures phase { self.new.phase ≡ self.old.phase }
     {
         let (shelves, mutex) = (self.shelves, self.desk);
-        let mut held = lock.lock(rt);
-        let mut desk = mutex.lock(rt);
+        let mut order = Order::new();
+        let mut held = lock.lock(rt, &mut order);
+        let mut desk = mutex.lock(rt, &mut order);
         let slot = self.slot;
         let handle = Handle { number, slot };
         desk.back(shelves, self.shared, &mut self.line, &mut held, handle, at)

@@ -1,13 +1,13 @@
 // The making of collections by a client.
 ghost use Rattle.std.specs.Prelude.{◌≡◌, [], IfOk, OnErr};
-ghost use Rattle.txn.specs.declared.steps.Action.{Action};
+ghost use Rattle.txn.specs.declared.actions.Action.{Action};
 ghost use Rattle.clients.specs.Calls.{Acts, IsMade};
 
 use crate::client::Client;
 use crate::miss::Miss;
 use crate::ticket::Ticket;
 use calls::{Kind, Refusal};
-use desks::{Change, Footprint, Naming};
+use desks::{Change, Footprint, Naming, Order};
 use records::Coded;
 use std::sync::Wait;
 
@@ -47,8 +47,9 @@ impl<'s, J: Naming, B: Coded> Client<'s, J, B> {
         ensures phase { self.new.phase ≡ self.old.phase }
     {
         let (shelves, mutex) = (self.shelves, self.desk);
-        let mut held = shelves.lock_all(rt);
-        let mut desk = mutex.lock(rt);
+        let mut order = Order::new();
+        let mut held = shelves.lock_all(rt, &mut order);
+        let mut desk = mutex.lock(rt, &mut order);
         let footprint = Footprint::of_making();
         self.check_room(&desk, footprint)?;
         let made = desk.make(shelves, self.shared, &mut self.line, &mut held, name, kind);

@@ -1,47 +1,38 @@
-// What a client has seen, without the store.
+// What clients have seen that have left, without the store.
 ghost use Rattle.std.specs.Prelude.{◌≡◌};
-ghost use Rattle.desks.specs.Seen.{IsSeen};
+ghost use Rattle.clients.specs.Known.{HaveSeen};
 
 use desks::Naming;
-use group_commit::{ClientSeat, Watcher};
+use group_commit::{Crowd, Watcher};
 use std::marker::{Model, PhantomData};
 
-/// What a client had seen when it left, without the store. It may go to another thread, and
-/// `Store::close` takes it. Contracts see it.
+/// What a client had seen when it left, or several, together, without the store. It may go to
+/// another thread, and `Store::close` takes it. Contracts see it.
 #[derive(Drop)]
 pub struct Seen<J: Naming> {
-    pub line: ClientSeat,
+    pub line: Crowd,
     pub watcher: Watcher,
     of: PhantomData<J>,
 }
 
 impl<J: Naming> Model for Seen<J> {
     ghost use Rattle.std.specs.Prelude.{◌≡◌};
-    ghost use Rattle.desks.specs.Seen.{IsSeen};
-    ghost use Rattle.clients.specs.Known.{SeenState};
+    ghost use Rattle.clients.specs.Known.{SeenState, HaveSeen};
 
     ghost Value = { SeenState };
 
-    ghost view = { λ s. record {
-      number = s.line.number;
-      seen = s.line.seen;
-      counts = s.watcher.counts;
-    } };
+    ghost view = { λ s. record { clients = s.line.clients; counts = s.watcher.counts } };
 
     ghost invariant = { λ s. (s.line.table ≡ J.line) × (s.watcher.table ≡ J.mark) ×
-        IsSeen J.origin s.line.seen };
+        HaveSeen J.origin s.line.clients };
 }
 
 impl<J: Naming> Seen<J> {
-    pub fn new(line: ClientSeat, watcher: Watcher) -> Self
+    pub fn new(line: Crowd, watcher: Watcher) -> Self
         requires line { line.table ≡ J.line }
         requires watcher { watcher.table ≡ J.mark }
-        requires legal { IsSeen J.origin line.seen }
-        ensures { result ≡ record {
-          number = line.number;
-          seen = line.seen;
-          counts = watcher.counts;
-        } }
+        requires legal { HaveSeen J.origin line.clients }
+        ensures { result ≡ record { clients = line.clients; counts = watcher.counts } }
     {
         Self {
             line,

@@ -156,7 +156,7 @@ pub(crate) fn mark(holders: &mut [Holder], priority: u64, tag: u64)
 // Removes holders that are marked, of which there are this many, so that the root is none of them
 // and they are no more than the others, and answers how many are left. It takes no memory. Over
 // many calls its cost is logarithmic for each holder that was marked.
-pub(crate) fn settle(holders: &mut Vec<Holder>, marked: usize) -> usize
+pub(crate) fn sift(holders: &mut Vec<Holder>, marked: usize) -> usize
     requires order { IsHeap holders.old.items }
     requires marks { marked ≡ marks_of holders.old.items }
     ensures kept { AreKept holders.new.items result }

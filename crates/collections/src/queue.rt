@@ -7,7 +7,7 @@ ghost use Rattle.calls.specs.Rules.{TakesNoMemory};
 ghost use Rattle.calls.specs.Queues.{Answers, after, CanLook, IsLeast, IsEmpty};
 ghost use Rattle.collections.specs.Items.{ListsBag, IsSizeOf};
 
-use crate::heap::{Holder, find, live_pairs, mark, push, remove_root, settle};
+use crate::heap::{Holder, find, live_pairs, mark, push, remove_root, sift};
 use calls::{Call, Refusal, Reply};
 use std::alloc::{AllocError, Global};
 use std::marker::Model;
@@ -179,7 +179,7 @@ impl QueueCol {
         ensures { (p g : ℕ) → IsLeast self.old p g → self.new ≡ take_out self.old (p, g) }
     {
         remove_root(&mut self.holders);
-        self.marked = settle(&mut self.holders, self.marked);
+        self.marked = sift(&mut self.holders, self.marked);
     }
 
     // Takes one copy of the pair out.
@@ -188,7 +188,7 @@ impl QueueCol {
         ensures { self.new ≡ take_out self.old (priority, tag) }
     {
         mark(&mut self.holders, priority, tag);
-        self.marked = settle(&mut self.holders, self.marked + 1);
+        self.marked = sift(&mut self.holders, self.marked + 1);
     }
 
     /// Makes the call, which is answered so. NoMemory, which leaves the queue as before, only where

@@ -8,15 +8,15 @@ use Rattle.std.proofs.lemmas.List.{append-nil}
 use Rattle.boosted.proofs.Each.{each_back}
 use Rattle.calls.specs.Contents.{Collection}
 use Rattle.calls.specs.declared.refusal.Refusal.{Refusal}
-use Rattle.record_format.specs.declared.record.Record.{Record}
-use Rattle.record_format.specs.Records.{IsRecord}
-use Rattle.blocks.specs.declared.block.Block.{Block}
-use Rattle.machine.specs.Machine.{journalled}
-use Rattle.repetition.specs.Steps as repeated
-use Rattle.repetition.specs.Steps.{Repeats}
-use Rattle.repetition.proofs.OneFormat.{repeats_format}
-use Rattle.txn.specs.declared.steps.Action.{Action}
-use Rattle.txn.specs.declared.steps.BookStep.{BookStep}
+use Rattle.records.specs.declared.record.Record.{Record}
+use Rattle.records.specs.Records.{IsRecord}
+use Rattle.records.specs.declared.block.Block.{Block}
+use Rattle.steps.specs.Machine.{journalled}
+use Rattle.replay.specs.Steps as repeated
+use Rattle.replay.specs.Steps.{Repeats}
+use Rattle.replay.proofs.OneFormat.{repeats_format}
+use Rattle.txn.specs.declared.actions.Action.{Action}
+use Rattle.txn.specs.declared.actions.BookStep.{BookStep}
 use Rattle.txn.specs.Books.{BookState, standing, opened, Takes, CutAnswers}
 use Rattle.txn.specs.Rows.{Standing}
 use Rattle.txn.specs.Histories.{records_by, CutRow}
@@ -27,7 +27,8 @@ use Rattle.boosted.specs.Meaning.{Meaning}
 use Rattle.catalog.specs.Making.{Making}
 use Rattle.catalog.specs.Meaning.{catalog_meaning, catalog_making}
 use Rattle.records.specs.Told.{Tells}
-use Rattle.group_commit.specs.Accords.{AccordState, nothing_gathered}
+use Rattle.group_commit.specs.Accords.{AccordState}
+use Rattle.images.specs.Gathers.{nothing_gathered}
 use Rattle.group_commit.specs.Lines as lines
 use Rattle.group_commit.specs.Lines.{ClientState, mine_of, stepped, seeing, steps_of, with_client}
 use Rattle.group_commit.specs.Orders.{SenderState}

@@ -1,7 +1,7 @@
 -- What the sending end of a hand-off knows once a borrow of it is given back.
 use Rattle.std.proofs.Common.{◌≡◌, List, ap, ◌∙◌, sym}
 use Rattle.std.specs.Borrow.{MutBor}
-use Rattle.blocks.specs.declared.block.Block.{Block}
+use Rattle.records.specs.declared.block.Block.{Block}
 use Rattle.group_commit.specs.Ends.{Sends}
 use Rattle.group_commit.specs.Orders.{SenderState}
 use Rattle.desks.specs.Notes.{IsSent}

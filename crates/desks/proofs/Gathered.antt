@@ -5,17 +5,17 @@ use Rattle.std.proofs.Common.{refl, sym, ap, ◌∙◌, subst, arith, length-app
 use Rattle.std.specs.Prelude.{OnOk}
 use Rattle.calls.specs.Contents.{Collection}
 use Rattle.calls.specs.declared.refusal.Refusal.{Refusal}
-use Rattle.blocks.specs.declared.block.Block.{Block}
+use Rattle.records.specs.declared.block.Block.{Block}
 use Rattle.images.specs.Gathers.{GatherState}
 use Rattle.images.specs.Gatherings.{KeepsGoing}
 use Rattle.images.proofs.Going.{goes_past_others}
-use Rattle.txn.specs.declared.steps.Action.{Action}
-use Rattle.txn.specs.declared.steps.Target.{Target}
-use Rattle.txn.specs.Books.{BookState, GoesOn, Takes, CutAnswers, position}
+use Rattle.txn.specs.declared.actions.Action.{Action}
+use Rattle.txn.specs.declared.actions.Target.{Target}
+use Rattle.txn.specs.Books.{BookState, GoesOn, Takes, CutAnswers, lsn}
 use Rattle.txn.specs.Freezing.{IsGatheredOf}
 use Rattle.boosted.specs.Meaning.{Meaning}
 use Rattle.catalog.specs.Making.{Making}
-use Rattle.group_commit.specs.Accords.{nothing_gathered}
+use Rattle.images.specs.Gathers.{nothing_gathered}
 
 module _ {S : Type 0} (collections : S → List Collection) where
   -- what is gathered is of the book
@@ -23,8 +23,8 @@ module _ {S : Type 0} (collections : S → List Collection) where
   Of b g = IsGatheredOf collections b g
 
   gathered_kept : (b c : BookState S) (g : GatherState) →
-      KeepsGoing collections b.gathering b.state.now (position b) c.gathering c.state.now
-      (position c) →
+      KeepsGoing collections b.gathering b.state.now (lsn b) c.gathering c.state.now
+      (lsn c) →
       Of b g → Of c g
   gathered_kept b c g keeps of = record {
     new = of.new;
@@ -33,32 +33,32 @@ module _ {S : Type 0} (collections : S → List Collection) where
   }
 
   -- A block is handed over, or none.
-  cut_position : (b c : BookState S) (sends : List Block → Type 0) (full : Type 0)
-      (r : Result Bool Refusal) → CutAnswers b sends full r c → position c ≡ position b
-  cut_position b c sends full (Ok true) cut = omega (
+  cut_lsn : (b c : BookState S) (sends : List Block → Type 0) (full : Type 0)
+      (r : Result Bool Refusal) → CutAnswers b sends full r c → lsn c ≡ lsn b
+  cut_lsn b c sends full (Ok true) cut = omega (
     arith,
     cut.0.3,
     cut.0.2.ends,
     ap length cut.0.2.are,
     length-append cut.0.2.first c.pending,
   )
-  cut_position b c sends full (Ok false) cut = omega (arith, ap length cut.0.2, cut.0.3)
-  cut_position b c sends full (Err Refusal.NotNow) cut = omega (arith, ap length cut.0.2, cut.0.3)
-  cut_position b c sends full (Err e) cut = absurd cut.0
+  cut_lsn b c sends full (Ok false) cut = omega (arith, ap length cut.0.2, cut.0.3)
+  cut_lsn b c sends full (Err Refusal.NotNow) cut = omega (arith, ap length cut.0.2, cut.0.3)
+  cut_lsn b c sends full (Err e) cut = absurd cut.0
 
   pub gathered_cut : (b c : BookState S) (g : GatherState) (sends : List Block → Type 0)
       (full : Type 0)
       (r : Result Bool Refusal) → CutAnswers b sends full r c → Of b g → Of c g
   gathered_cut b c g sends full r cut =
-      let same = cut_position b c sends full r cut in
-      let keeps = goes_past_others collections b.gathering (position b) (position c)
+      let same = cut_lsn b c sends full r cut in
+      let keeps = goes_past_others collections b.gathering (lsn b) (lsn c)
       b.state.now (omega (arith, same)) in
       gathered_kept b c g
-      (subst (λ s. KeepsGoing collections b.gathering b.state.now (position b) c.gathering s
-      (position c))
+      (subst (λ s. KeepsGoing collections b.gathering b.state.now (lsn b) c.gathering s
+      (lsn c))
       (sym (ap (λ (v : BookState S). v.state.now) cut.1))
-      (subst (λ n. KeepsGoing collections b.gathering b.state.now (position b) n b.state.now
-      (position c))
+      (subst (λ n. KeepsGoing collections b.gathering b.state.now (lsn b) n b.state.now
+      (lsn c))
       (sym (ap (λ (v : BookState S). v.gathering) cut.1)) keeps))
 
   -- nothing is of every book

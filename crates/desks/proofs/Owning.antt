@@ -7,8 +7,8 @@ use Rattle.std.proofs.lemmas.List.Elements.{Contains-append_left, Contains-push_
 use Rattle.std.specs.Prelude.{Contains, IsSome, filter}
 use mathlib.Core.List.{IsPrefix}
 use Rattle.calls.specs.declared.refusal.Refusal.{Refusal}
-use Rattle.txn.specs.declared.steps.Action.{Action}
-use Rattle.txn.specs.declared.steps.BookStep.{BookStep}
+use Rattle.txn.specs.declared.actions.Action.{Action}
+use Rattle.txn.specs.declared.actions.BookStep.{BookStep}
 use Rattle.group_commit.specs.Lines as lines
 use Rattle.group_commit.specs.Lines.{ClientState, concerns, stepped, with_client}
 use Rattle.group_commit.specs.Numbers.{DrawerState, MakerState, IsReported, AreOfOne}

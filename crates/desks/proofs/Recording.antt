@@ -6,15 +6,15 @@ use Rattle.std.specs.List.{AllByRecursion}
 use Rattle.std.proofs.lemmas.List.{append-nil}
 use Rattle.boosted.proofs.Each.{weaker, each_append}
 use Rattle.calls.specs.Contents.{Collection}
-use Rattle.record_format.specs.declared.record.Record.{Record}
-use Rattle.record_format.specs.Records.{IsRecord}
+use Rattle.records.specs.declared.record.Record.{Record}
+use Rattle.records.specs.Records.{IsRecord}
 use Rattle.images.specs.Gathers.{GatherState}
-use Rattle.machine.specs.Machines.{resting}
-use Rattle.machine.proofs.Journalled.{GoesUnheard}
-use Rattle.repetition.specs.Steps.{State, Steps, Repeats}
-use Rattle.repetition.proofs.LagLemmas.{lags_self, lags_step, lags_unheard}
-use Rattle.repetition.proofs.OneFormat.{step_format}
-use Rattle.repetition.proofs.Lists.{leads_push, leads_split}
+use Rattle.steps.specs.Machines.{resting}
+use Rattle.steps.proofs.Journalled.{GoesUnheard}
+use Rattle.replay.specs.Steps.{State, Steps, Repeats}
+use Rattle.replay.proofs.LagLemmas.{lags_self, lags_step, lags_unheard}
+use Rattle.replay.proofs.OneFormat.{step_format}
+use Rattle.replay.proofs.Lists.{leads_push, leads_split}
 use Rattle.checkpoint.specs.Stored.{StandIn, AreReadTo, GoAlong}
 use Rattle.checkpoint.proofs.StandLemmas.{stands_push, stands_unheard}
 use Rattle.desks.specs.Desks.{AreRecorded, PacksImages}

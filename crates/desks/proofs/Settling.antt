@@ -5,8 +5,8 @@ use Rattle.calls.specs.declared.refusal.Refusal.{Refusal}
 use Rattle.boosted.specs.Meaning.{Meaning}
 use Rattle.catalog.specs.declared.four.Four.{Four}
 use Rattle.catalog.specs.Making.{Making}
-use Rattle.shelf.specs.Shelves.{ShelfState}
-use Rattle.txn.specs.declared.steps.Action.{Action}
+use Rattle.steps.specs.Shelves.{ShelfState}
+use Rattle.txn.specs.declared.actions.Action.{Action}
 use Rattle.txn.specs.Books.{standing, Takes}
 use Rattle.txn.specs.Rows.{CommitRefused, EndedRefused}
 use Rattle.txn.specs.Shelved.{JournalState, book_state, standing_of, Serves}

@@ -14,14 +14,15 @@ use Rattle.catalog.specs.Laws.Numbers.{pick_put}
 use Rattle.catalog.specs.Making.{Making, IsPlaceOf}
 use Rattle.catalog.specs.Shelving.{ShelfLaws}
 use Rattle.catalog.specs.Woven.{Label, names_in}
-use Rattle.shelf.specs.Shelves.{ShelfState}
-use Rattle.machine.specs.Wholes.{contents}
-use Rattle.machine.proofs.FourShelves.{by_shelf, pick_other, rank_is}
+use Rattle.steps.specs.Shelves.{ShelfState}
+use Rattle.steps.specs.Wholes.{contents}
+use Rattle.steps.proofs.FourShelves.{by_shelf, pick_other, rank_is}
 use Rattle.records.specs.Told.{Tells}
-use Rattle.txn.specs.declared.steps.Action.{Action}
+use Rattle.txn.specs.declared.actions.Action.{Action}
 use Rattle.txn.specs.Books.{BookState, opened, Takes, CutAnswers}
 use Rattle.txn.specs.Shelved.{JournalState, book_state, IsBook}
-use Rattle.group_commit.specs.Accords.{AccordState, nothing_gathered}
+use Rattle.group_commit.specs.Accords.{AccordState}
+use Rattle.images.specs.Gathers.{nothing_gathered}
 use Rattle.group_commit.specs.Lines as lines
 use Rattle.group_commit.specs.Lines.{ClientState, mine_of, stepped, seeing, with_client}
 use Rattle.group_commit.specs.Orders.{SenderState}

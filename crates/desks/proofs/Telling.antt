@@ -21,19 +21,19 @@ use Rattle.boosted.specs.Meaning.{Meaning, CanAsk, CanDefer, AskRefusal, DeferRe
 use Rattle.catalog.specs.Making as naming
 use Rattle.catalog.specs.Making.{Making, IsPlaceOf, FindRefused, names_of}
 use Rattle.catalog.specs.Meaning.{catalog_meaning, catalog_making}
-use Rattle.shelf.specs.Looks.{CanTake, TakeRefused}
-use Rattle.record_format.specs.declared.record.Record.{Record}
-use Rattle.record_format.specs.Short.{AreShort}
+use Rattle.steps.specs.Looks.{CanTake, TakeRefused}
+use Rattle.records.specs.declared.record.Record.{Record}
+use Rattle.records.specs.Short.{AreShort}
 use Rattle.records.specs.Told.{Tells}
 use Rattle.images.specs.Gathers.{GatherState}
 use Rattle.images.specs.Gatherings.{GatheringState, GoesAlong}
-use Rattle.machine.specs.Machine.{State, Does, IsRunning, IsLeft, CanBegin, BeginRow, EndedRow}
-use Rattle.machine.specs.Machine.{FallRow, UnreadRow, MakeRow, CanCall, CallRow, ReadRow}
-use Rattle.machine.specs.Machine.{LaterRow, CommitRow, WrittenBackRow}
-use Rattle.machine.specs.Sound.{IsSound}
-use Rattle.txn.specs.declared.steps.Action.{Action}
-use Rattle.txn.specs.declared.steps.Target.{Target}
-use Rattle.txn.specs.Books.{BookState, standing, position, Appends, Moves, Takes, IsKept}
+use Rattle.steps.specs.Machine.{State, Does, IsRunning, IsLeft, CanBegin, BeginRow, EndedRow}
+use Rattle.steps.specs.Machine.{FallRow, UnreadRow, MakeRow, CanCall, CallRow, ReadRow}
+use Rattle.steps.specs.Machine.{LaterRow, CommitRow, WrittenBackRow}
+use Rattle.steps.specs.Sound.{IsSound}
+use Rattle.txn.specs.declared.actions.Action.{Action}
+use Rattle.txn.specs.declared.actions.Target.{Target}
+use Rattle.txn.specs.Books.{BookState, standing, lsn, Appends, Moves, Takes, IsKept}
 use Rattle.txn.specs.Freezing.{IsGatheredOf, FreezeAnswers}
 use Rattle.txn.specs.Rows.{Standing, MakeRefused, EnterRefused, IsOpen, OpenRefused}
 use Rattle.txn.specs.Rows.{IsUnhindered, AskedInVain, DeferredInVain, IsDenied, RefusesAsk}
@@ -194,7 +194,7 @@ module _ {S : Type 0} {meaning : Meaning S ℕ} {making : Making S}
     later_row n at call row = record {
       can = record {
         running = runs s n row.can.running;
-        put_off = defers s.now at call row.can.put_off;
+        deferred = defers s.now at call row.can.deferred;
         few = row.can.few;
         ready = (told.answers s.now at call Reply.Done).0 row.can.ready;
         clear = row.can.clear;
@@ -402,10 +402,10 @@ module _ {S : Type 0} {meaning : Meaning S ℕ} {making : Making S}
 -- ---- what is gathered of a book
 
 module _ {S : Type 0} (collections : S → List Collection) where
-  pub along_told : (n : GatheringState) (now : S) (position : ℕ) (g : GatherState) →
-      GoesAlong collections n now position g →
-      GoesAlong (λ v. v) n (collections now) position g
-  along_told n now position g along =
+  pub along_told : (n : GatheringState) (now : S) (lsn : ℕ) (g : GatherState) →
+      GoesAlong collections n now lsn g →
+      GoesAlong (λ v. v) n (collections now) lsn g
+  along_told n now lsn g along =
       record { mark = along.mark; follows = along.follows; came = along.came }
 
   module _ (b : BookState S) (g : GatherState) where
@@ -414,7 +414,7 @@ module _ {S : Type 0} (collections : S → List Collection) where
         IsGatheredOf (λ v. v) (told_book collections b) g
     gathered_told of = record {
       new = of.new;
-      along = λ under. along_told b.gathering b.state.now (position b) g (of.along under);
+      along = λ under. along_told b.gathering b.state.now (lsn b) g (of.along under);
     }
 
     pub gathered_back : IsGatheredOf (λ v. v) (told_book collections b) g →
@@ -434,7 +434,7 @@ module _ {S : Type 0} (collections : S → List Collection) where
     record {
       frozen = holds.frozen;
       is_frozen = holds.is_frozen;
-      marks = holds.marks;
+      image_head = holds.image_head;
       tells = holds.tells;
       copies = holds.copies;
     },
@@ -471,8 +471,8 @@ kept_told told sound b kept is_sound = let upheld = kept.upheld in record {
   };
   below = kept.below;
   next = kept.next;
-  positions = subst (λ l. b.end + length b.pending + maps.len b.state.live ≤
-      2 * b.state.wear + length l) (told.names b.state.now) kept.positions;
+  lsns = subst (λ l. b.end + length b.pending + maps.len b.state.live ≤
+      2 * b.state.wear + length l) (told.names b.state.now) kept.lsns;
   placed = kept.placed;
   counted = kept.counted;
 }

@@ -7,7 +7,7 @@ use Rattle.calls.specs.Transactions.{Event}
 use Rattle.boosted.specs.Meaning.{Meaning}
 use Rattle.catalog.specs.declared.four.Four.{Four}
 use Rattle.catalog.specs.Fours.{Which, First, Second, Third, Fourth, pick}
-use Rattle.shelf.specs.Shelves.{ShelfState, Does, Settles}
+use Rattle.steps.specs.Shelves.{ShelfState, Does, Settles}
 use Rattle.txn.specs.Shelved.{IsIdle}
 use Rattle.group_commit.specs.Twins.{EndState, touched}
 use Rattle.desks.specs.declared.touch.Touch.{Touch}

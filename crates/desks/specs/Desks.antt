@@ -3,15 +3,15 @@ use Rattle.calls.specs.declared.format.Format.{Format}
 use Rattle.std.specs.Prelude.{◌≡◌, ℕ, List, [], map, Contains, Option, Some, None}
 use Rattle.std.specs.List.{AllByRecursion}
 use Rattle.calls.specs.Contents.{Collection}
-use Rattle.record_format.specs.declared.record.Record.{Record}
-use Rattle.record_format.specs.Records.{IsRecord}
-use Rattle.blocks.specs.declared.block.Image.{Image}
+use Rattle.records.specs.declared.record.Record.{Record}
+use Rattle.records.specs.Records.{IsRecord}
+use Rattle.records.specs.declared.block.Image.{Image}
 use Rattle.images.specs.Gathers.{FrozenState, GatherState, Packs}
-use Rattle.machine.specs.Machine.{journalled}
-use Rattle.machine.specs.Machines.{resting}
-use Rattle.repetition.specs.Steps.{State, Repeats}
-use Rattle.repetition.specs.Lagging.{Lags}
-use Rattle.txn.specs.declared.steps.BookStep.{BookStep}
+use Rattle.steps.specs.Machine.{journalled}
+use Rattle.steps.specs.Machines.{resting}
+use Rattle.replay.specs.Steps.{State, Repeats}
+use Rattle.replay.specs.Lagging.{Lags}
+use Rattle.txn.specs.declared.actions.BookStep.{BookStep}
 use Rattle.txn.specs.Books.{BookState}
 use Rattle.txn.specs.Freezing.{IsGatheredOf}
 use Rattle.txn.specs.Histories.{records_by}
@@ -30,7 +30,7 @@ use Rattle.desks.specs.Owners.{transaction_of, AreOwned}
 -- how many records came before a freeze
 abbrev pub frozen_end : Option FrozenState → ℕ
 frozen_end None = 0
-frozen_end (Some frozen) = frozen.marks.end
+frozen_end (Some frozen) = frozen.image_head.end
 
 -- and before each of what was frozen
 abbrev pub frozen_ends : List GatherState → List ℕ

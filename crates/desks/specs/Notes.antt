@@ -1,16 +1,10 @@
 -- What is noted of a step for the proofs alone.
-use Rattle.std.specs.Prelude.{◌≡◌, ℕ, ◌-◌, Option, Some, None, Result, Ok, Err, List, ◌++◌, length}
-use Rattle.calls.specs.declared.refusal.Refusal.{Refusal}
-use Rattle.record_format.specs.declared.record.Record.{Record}
-use Rattle.blocks.specs.declared.block.Block.{Block}
+use Rattle.std.specs.Prelude.{◌≡◌, ℕ, ◌-◌, None, List, ◌++◌, length}
+use Rattle.records.specs.declared.record.Record.{Record}
+use Rattle.records.specs.declared.block.Block.{Block}
 use Rattle.group_commit.specs.Orders.{SenderState}
-use Rattle.txn.specs.declared.steps.Action.{Action}
-use Rattle.txn.specs.declared.steps.BookStep.{BookStep}
-
--- the collection that was found, if one was
-abbrev pub found_of : Result ℕ Refusal → Option ℕ
-found_of (Ok at) = Some at
-found_of (Err e) = None
+use Rattle.txn.specs.declared.actions.Action.{Action}
+use Rattle.txn.specs.declared.actions.BookStep.{BookStep}
 
 -- a step of no client
 abbrev pub alone : Action → BookStep

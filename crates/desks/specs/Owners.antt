@@ -1,7 +1,7 @@
 -- Who takes which step of a history.
 use Rattle.std.specs.Prelude.{◌≡◌, ℕ, List, Contains, Option, Some, None, Ok, IsSome}
-use Rattle.txn.specs.declared.steps.Action.{Action}
-use Rattle.txn.specs.declared.steps.BookStep.{BookStep}
+use Rattle.txn.specs.declared.actions.Action.{Action}
+use Rattle.txn.specs.declared.actions.BookStep.{BookStep}
 use Rattle.group_commit.specs.Lines.{ClientState, mine_of}
 
 -- the number of the transaction that a step is of

@@ -1,7 +1,7 @@
 -- Collections of any form, as the named collections that they tell of.
 use Rattle.std.specs.Prelude.{List}
 use Rattle.calls.specs.Contents.{Collection}
-use Rattle.machine.specs.Machine.{State}
+use Rattle.steps.specs.Machine.{State}
 use Rattle.txn.specs.Books.{BookState}
 
 -- S: contents of the collections. collections: what they tell.

@@ -6,7 +6,7 @@ use Rattle.boosted.specs.Meaning.{Meaning}
 use Rattle.catalog.specs.declared.four.Four.{Four}
 use Rattle.catalog.specs.Fours.{Which, pick}
 use Rattle.catalog.specs.Making.{Making}
-use Rattle.shelf.specs.Shelves.{ShelfState}
+use Rattle.steps.specs.Shelves.{ShelfState}
 use Rattle.txn.specs.Books.{BookState}
 use Rattle.txn.specs.Shelved.{JournalState, book_state, IsBook}
 use Rattle.group_commit.specs.Accords.{AccordState}
@@ -59,5 +59,5 @@ module _ {S T N J : Type 0} (j : Ghosts J) (meaning : Meaning S ℕ) (making : M
       (seat : lines.BookState) (sender : SenderState) (near : AccordState) : Type 0 where
     pub shelves : Four (ShelfState T)
     pub known : IsKnown k nears shelves
-    pub format : k.accounts.format ≡ j.origin.format
+    pub format : k.transactions.format ≡ j.origin.format
     pub desk : IsDesk j (told_book collections (book_state whole k shelves)) seat sender near

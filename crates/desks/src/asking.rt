@@ -3,9 +3,9 @@ ghost use Rattle.std.specs.Prelude.{◌≡◌, ℕ, Err, Option, None, IfOk, IfE
 ghost use Rattle.calls.specs.declared.reply.Reply.{Reply};
 ghost use Rattle.calls.specs.declared.when.When.{When};
 ghost use Rattle.catalog.specs.Fours.{which_of};
-ghost use Rattle.shelf.specs.Looks.{IsLooked};
-ghost use Rattle.txn.specs.declared.steps.Action.{Action};
-ghost use Rattle.txn.specs.declared.steps.Target.{Target};
+ghost use Rattle.steps.specs.Looks.{IsLooked};
+ghost use Rattle.txn.specs.declared.actions.Action.{Action};
+ghost use Rattle.txn.specs.declared.actions.Target.{Target};
 ghost use Rattle.desks.specs.Seen.{Steps};
 ghost use Rattle.desks.specs.Owners.{HasEntered};
 
@@ -19,8 +19,8 @@ use crate::touch::note_touch;
 use calls::{Call, Refusal, Reply, When};
 use group_commit::ClientSeat;
 use records::Coded;
-use shelf::Looked;
 use std::marker::Brand;
+use steps::Looked;
 use undo_log::Handle;
 
 impl<J: Naming, B: Coded> Desk<J, B> {
@@ -93,12 +93,14 @@ impl<J: Naming, B: Coded> Desk<J, B> {
             journal,
             nears,
             seat,
+            counts,
             ..
         } = self;
         let twin = shelves.twins.of(at);
         let near = nears.of_mut(at);
         twin.compare(near, &mut held.far);
         let replied = journal.ask(&mut held.shelf, handle, at, call, when, looked);
+        counts.note_answer(call, &replied);
         let parts = &(handle.number, name, at, call, when, &replied);
         note_touch::<Brand, _, _>(twin, near, &mut held.far, &held.shelf, &(&*me, parts));
         note::<Brand, _>(&shared.line, seat, me, parts);

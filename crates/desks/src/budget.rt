@@ -1,6 +1,6 @@
 // How much the next image of a store may take.
 use crate::footprint::{Change, Footprint};
-use undoing::blocks_len;
+use replay::blocks_len;
 
 // What an image has beside items and entries: its marks, its end and the gate, with what a few
 // steps leave that are not counted.
@@ -13,8 +13,8 @@ const HEADS: u64 = 8_192;
 // something away go on.
 const SPARE: u64 = 8;
 
-// Where the last image alone leaves no room, a checkpoint is taken once so much may be freed: one byte
-// of an area in so many.
+// Where the last image alone leaves no room, a checkpoint is taken once so much may be freed: one
+// byte of an area in so many.
 const WORTH: u64 = 1_024;
 
 // A checkpoint is wanted early where three quarters of what the last one left are added, and no

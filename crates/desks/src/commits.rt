@@ -1,11 +1,11 @@
 // Commits under the locks of those shelves that the transaction needs, and of the journal.
-ghost use Rattle.std.specs.Prelude.{◌≡◌, IfSome, IsNone, OnOk, length, map};
+ghost use Rattle.std.specs.Prelude.{◌≡◌, IfSome, IsNone, IsSome, OnOk, length, map};
 ghost use Rattle.calls.specs.Transactions.{laters_of};
 ghost use Rattle.undo_log.specs.Entries.{stamped_entry};
 ghost use Rattle.catalog.specs.declared.four.Four.{Four};
 ghost use Rattle.catalog.specs.Fours.{Which, First, Second, Third, Fourth, rank, pick};
-ghost use Rattle.shelf.specs.Shelves.{ShelfState, CanRun, Settles, on_quarter};
-ghost use Rattle.txn.specs.declared.steps.Action.{Action};
+ghost use Rattle.steps.specs.Shelves.{ShelfState, CanRun, Settles, on_quarter};
+ghost use Rattle.txn.specs.declared.actions.Action.{Action};
 ghost use Rattle.txn.specs.Shelved.{IsIdle, IsServed, IsUntouched, SettlesWhole};
 ghost use Rattle.desks.specs.Seen.{Steps};
 ghost use Rattle.desks.specs.Owners.{HasEntered};
@@ -21,16 +21,16 @@ use calls::Refusal;
 use catalog::{Four, Parts};
 use group_commit::{ClientSeat, TwinNear};
 use records::Coded;
-use shelf::Shelf;
 use std::marker::Brand;
+use steps::Shelf;
 use txn::Journal;
 use undo_log::{Handle, Stamped};
 
 impl<J: Naming, B: Coded> Desk<J, B> {
     /// Commits a transaction, under the locks of the shelves that are held: a step of the client,
     /// which gives the count of commits and makings since the store was opened, this one included.
-    /// None, with nothing changed, where it asked for something on a shelf that is not among them.
-    /// It calls no device.
+    /// None, with nothing changed, where it asked for something on a shelf that is not among them;
+    /// so never where all are held. It calls no device.
     ///
     /// The refusals of `Journal::prepare_commit`, which leave journal and shelves as before. They
     /// are noted.
@@ -47,6 +47,8 @@ impl<J: Naming, B: Coded> Desk<J, B> {
         ensures some { IfSome result (λ r. Steps J.origin me.old (Action.Commit handle.number r)
             me.new) }
         ensures none { IsNone result → me.new ≡ me.old }
+        ensures all { IsSome held.old.first → IsSome held.old.second → IsSome held.old.third →
+            IsSome held.old.fourth → IsSome result }
     {
         let needed = self.journal.shelves_of(handle);
         if !held.covers(&needed) {
@@ -56,9 +58,11 @@ impl<J: Naming, B: Coded> Desk<J, B> {
             journal,
             nears,
             seat,
+            counts,
             ..
         } = self;
         let committed = commit_over(shelves, journal, nears, held, handle);
+        counts.note_commit(committed.is_ok());
         note::<Brand, _>(&shared.line, seat, me, &(handle.number, &committed));
         wake(&shared.signal, journal, committed.is_ok());
         Some(committed)
@@ -77,13 +81,13 @@ fn commit_over<J: Naming, B: Coded>(
     requires known { (f : Four (ShelfState B.Shelf)) × IsKnown ⟦<J as Naming>⟧ B.meaning B.making
         B.collections B.whole B.fits journal.old nears.old f }
     requires first { IsNone held.old.first →
-        IsUntouched First handle.number journal.old.accounts.entries }
+        IsUntouched First handle.number journal.old.transactions.entries }
     requires second { IsNone held.old.second →
-        IsUntouched Second handle.number journal.old.accounts.entries }
+        IsUntouched Second handle.number journal.old.transactions.entries }
     requires third { IsNone held.old.third →
-        IsUntouched Third handle.number journal.old.accounts.entries }
+        IsUntouched Third handle.number journal.old.transactions.entries }
     requires fourth { IsNone held.old.fourth →
-        IsUntouched Fourth handle.number journal.old.accounts.entries }
+        IsUntouched Fourth handle.number journal.old.transactions.entries }
     ensures { LeadsKnown ⟦<J as Naming>⟧ B.meaning B.making B.collections B.whole B.fits
         (λ b c. IsServed B.meaning B.making B.collections (Action.Commit handle.number) result
         (OnOk result (SettlesWhole B.meaning B.making handle.number b c)) b c)

@@ -4,11 +4,12 @@ ghost use Rattle.std.specs.Prelude.{IsOkUnless, ◌⊎◌, ◌≤◌, Contains};
 ghost use Rattle.calls.specs.declared.refusal.Refusal.{Refusal};
 ghost use Rattle.catalog.specs.declared.four.Four.{Four};
 ghost use Rattle.catalog.specs.Fours.{Which, pick};
-ghost use Rattle.shelf.specs.Shelves.{ShelfState};
-ghost use Rattle.txn.specs.declared.steps.Action.{Action};
+ghost use Rattle.steps.specs.Shelves.{ShelfState};
+ghost use Rattle.txn.specs.declared.actions.Action.{Action};
 ghost use Rattle.txn.specs.Books.{opened, CutAnswers};
 ghost use Rattle.txn.specs.Shelved.{book_state, IsBook, IsJournal};
-ghost use Rattle.group_commit.specs.Accords.{AccordState, nothing_gathered};
+ghost use Rattle.group_commit.specs.Accords.{AccordState};
+ghost use Rattle.images.specs.Gathers.{nothing_gathered};
 ghost use Rattle.group_commit.specs.Lines.{mine_of, stepped, seeing};
 ghost use Rattle.group_commit.specs.Marks.{new_watcher};
 ghost use Rattle.group_commit.specs.Orders.{WasFull};
@@ -20,9 +21,11 @@ ghost use Rattle.engine.specs.Rooms.{IsWhyNone};
 ghost use Rattle.desks.specs.Touches.{Leads, IsJournalDesk};
 
 use crate::budget::{Admission, Budget, Fill};
+use crate::counts::Counts;
 use crate::extent::Extent;
 use crate::footprint::{Change, Footprint};
 use crate::naming::Naming;
+use crate::order::Ranked;
 use crate::shared::Shared;
 use crate::signal::Signal;
 use crate::touch::Touch;
@@ -34,10 +37,10 @@ use group_commit::{
     TwinNear, Watcher,
 };
 use records::Coded;
-use shelf::Shelf;
 use std::marker::{Brand, Model, PhantomData};
 use std::snapshot::Snapshot;
 use std::sync::Wait;
+use steps::Shelf;
 use txn::Journal;
 
 /// The journal, with the near ends of the twins by which it knows what the shelves hold, and the
@@ -58,6 +61,8 @@ pub struct Desk<J: Naming, B: Coded> {
     pub(crate) extent: Extent,
     // how much the next image may take
     pub(crate) budget: Budget,
+    // what was done since the store was opened
+    pub(crate) counts: Counts,
     of: PhantomData<J>,
 }
 
@@ -75,6 +80,7 @@ impl<J: Naming, B: Coded> Drop for Desk<J, B> {
             undoing: _undoing,
             extent: _extent,
             budget: _budget,
+            counts: _counts,
             of: _of,
         } = self;
         drop(journal);
@@ -101,6 +107,14 @@ impl<J: Naming, B: Coded> Model for Desk<J, B> {
         d.nears d.seat d.sender d.near
         × (d.maker.table ≡ J.numbers) × (d.maker.from ≡ J.origin.next) ×
         (d.watcher.table ≡ J.mark) × IsDrawn d.maker d.seat };
+}
+
+impl<J: Naming, B: Coded> Ranked for Desk<J, B> {
+    ghost level = { 7 };
+
+    fn level() -> u8 {
+        7
+    }
 }
 
 impl<J: Naming, B: Coded> Desk<J, B> {
@@ -144,12 +158,13 @@ impl<J: Naming, B: Coded> Desk<J, B> {
             undoing: 0,
             extent,
             budget: Budget::new(extent.area, extent.used),
+            counts: Counts::new(),
             of: PhantomData,
         }
     }
 
-    /// Makes a number live, which the client's drawer drew: a step of the client. The journal's side
-    /// learns what the drawer drew. It calls no device.
+    /// Makes a number live, which the client's drawer drew: a step of the client. The journal's
+    /// side learns what the drawer drew. It calls no device.
     ///
     /// The refusals of `Journal::enter`, which leave the journal as before. They are noted.
     pub fn enter(
@@ -207,6 +222,7 @@ impl<J: Naming, B: Coded> Desk<J, B> {
         let before = Snapshot::of(&self.journal);
         let cut = cut_into(rt, &shared.handoff, &mut self.journal, &mut self.sender);
         shared.signal.cut(self.journal.waiting());
+        self.counts.note_cut(&cut);
         note_alone::<Brand, _>(
             &shared.line,
             &mut self.seat,
@@ -237,9 +253,9 @@ impl<J: Naming, B: Coded> Desk<J, B> {
         self.journal.undoing()
     }
 
-    /// Whether a step may be taken, for what it adds to the next image. `waited` is how many freezes
-    /// there were when its client last waited for a checkpoint, if it did. Each one fits where no
-    /// committer is at work, as nobody takes checkpoints then.
+    /// Whether a step may be taken, for what it adds to the next image. `waited` is how many
+    /// freezes there were when its client last waited for a checkpoint, if it did. Each one fits
+    /// where no committer is at work, as nobody takes checkpoints then.
     pub fn admit(
         &self,
         shared: &Shared<J>,
@@ -271,10 +287,11 @@ impl<J: Naming, B: Coded> Desk<J, B> {
     pub fn note_image(&mut self, extent: Extent) {
         self.extent = extent;
         self.budget.flip(extent.used);
+        self.counts.note_checkpoint();
     }
 
     /// The journal with the near ends, its seat and the sending end, where no thread shares the
-    /// desk any more. It takes no memory.
+    /// desk any more, and how many clients were made. It takes no memory.
     pub fn into_parts(
         self,
     ) -> (
@@ -282,9 +299,11 @@ impl<J: Naming, B: Coded> Desk<J, B> {
         Four<TwinNear<Touch<Shelf<B::Shelf>>>>,
         BookSeat,
         Sender,
+        u64,
     )
-        ensures { (near : AccordState) × IsJournalDesk ⟦<J as Naming>⟧ B.meaning B.making
+        ensures desk { (near : AccordState) × IsJournalDesk ⟦<J as Naming>⟧ B.meaning B.making
             B.collections B.whole B.fits result.0 result.1 result.2 result.3 near }
+        ensures clients { result.4 ≡ result.2.clients }
     {
         let Self {
             journal,
@@ -297,12 +316,14 @@ impl<J: Naming, B: Coded> Desk<J, B> {
             undoing: _undoing,
             extent: _extent,
             budget: _budget,
+            counts: _counts,
             of: _of,
         } = self;
+        let clients = maker.made();
         drop(near);
         drop(maker);
         drop(watcher);
-        (journal, nears, seat, sender)
+        (journal, nears, seat, sender, clients)
     }
 
     /// A new watcher of the mark.

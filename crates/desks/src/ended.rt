@@ -2,8 +2,8 @@
 ghost use Rattle.std.specs.Prelude.{◌≡◌, []};
 ghost use Rattle.catalog.specs.declared.four.Four.{Four};
 ghost use Rattle.catalog.specs.Fours.{Which, pick, put};
-ghost use Rattle.shelf.specs.Shelves.{ShelfState, Settles};
-ghost use Rattle.txn.specs.declared.steps.Action.{Action};
+ghost use Rattle.steps.specs.Shelves.{ShelfState, Settles};
+ghost use Rattle.txn.specs.declared.actions.Action.{Action};
 ghost use Rattle.txn.specs.Shelved.{Serves};
 ghost use Rattle.desks.specs.Seen.{Steps};
 ghost use Rattle.desks.specs.Owners.{HasEntered};
@@ -20,8 +20,8 @@ use calls::Refusal;
 use catalog::{Four, Parts};
 use group_commit::{ClientSeat, Twin, TwinNear};
 use records::Coded;
-use shelf::Shelf;
 use std::marker::Brand;
+use steps::Shelf;
 use txn::Journal;
 use undo_log::Handle;
 
@@ -47,9 +47,11 @@ impl<J: Naming, B: Coded> Desk<J, B> {
             journal,
             nears,
             seat,
+            counts,
             ..
         } = self;
         let ended = end_over(&shelves.twins, journal, nears, held, handle);
+        counts.note_abort(ended.is_ok());
         note::<Brand, _>(&shared.line, seat, me, &(handle.number, &ended));
         wake(&shared.signal, journal, false);
         ended

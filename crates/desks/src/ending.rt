@@ -1,7 +1,7 @@
 // Ends of transactions under the journal's lock: undoing, commits, and what is done with.
 ghost use Rattle.std.specs.Prelude.{◌≡◌, IfErr, IfSome, IsNone, OnOk};
 ghost use Rattle.catalog.specs.Fours.{which_of};
-ghost use Rattle.txn.specs.declared.steps.Action.{Action};
+ghost use Rattle.txn.specs.declared.actions.Action.{Action};
 ghost use Rattle.desks.specs.Seen.{Steps};
 ghost use Rattle.desks.specs.Owners.{HasEntered};
 

@@ -17,23 +17,31 @@
 //! history itself is a table of `group_commit`, of which each client has a seat.
 //!
 //! **To change it.** A new step is a method of `Desk`, which notes it. When a client waits is
-//! `Signal`; who waits for work, and whom it is told, is `WaitQueue` of `waiting`; how much room a
+//! `Signal`; who waits for work, and whom it is told, is `WaitQueue` (`queue.rt`); how much room a
 //! block leaves is `Room` of `engine`; how much the next image may take is `Budget`, and what a
 //! step adds to it is `Footprint`.
 #![tactic(auto)]
 
+mod asked;
 mod asking;
 mod budget;
 mod commits;
+mod counts;
 mod desk;
 mod ended;
 mod ending;
 mod extent;
 mod footprint;
+mod line;
 mod lock;
 mod making;
+mod moment;
 mod naming;
+mod order;
 mod quarter;
+mod queue;
+mod recent_ends;
+mod served;
 mod shared;
 mod shelf_desk;
 mod shelves;
@@ -41,15 +49,21 @@ mod signal;
 mod status;
 mod touch;
 mod visit;
+mod waiter;
 
+pub use asked::{Asked, Ended};
 pub use budget::{Admission, Fill, full_of};
 pub use catalog::Measured;
+pub use counts::Counts;
 pub use desk::{Desk, note_alone};
 pub use extent::Extent;
 pub use footprint::{Change, Footprint};
 pub use lock::Lock;
+pub use moment::Moment;
 pub use naming::Naming;
+pub use order::{Order, Ranked, lock_next};
 pub use quarter::{FirstShelf, FourthShelf, Quarter, SecondShelf, ThirdShelf};
+pub use queue::{Place, WaitQueue};
 pub use shared::Shared;
 pub use shelf_desk::ShelfDesk;
 pub use shelves::{Held, HeldAll, Shelves};
@@ -57,4 +71,3 @@ pub use signal::Signal;
 pub use status::Status;
 pub use touch::Touch;
 pub use undo_log::Handle;
-pub use waiting::{Asked, Ended, Moment, Place, WaitQueue};

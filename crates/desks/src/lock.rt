@@ -1,11 +1,13 @@
 // A lock that counts who waits for it.
+ghost use Rattle.std.specs.Prelude.{◌≡◌, ◌<◌};
+
+use crate::order::{Order, Ranked};
 use crate::visit::Visit;
 use crossbeam_utils::Backoff;
 use std::sync::atomic::{AtomicU64, Ordering};
 use std::sync::{Mutex, MutexGuard, Wait};
 
-// How often a lock is tried before a sleep: with the pauses that double, some two microseconds, in
-// which a step under it is over ten times.
+// How often a lock is tried before a sleep. The pause between two tries doubles.
 const TRIES: u32 = 7;
 
 /// What lies under a lock, with the count of those who came to wait for it. A lock goes to whoever
@@ -28,10 +30,8 @@ impl<T> Lock<T> {
         }
     }
 
-    /// Takes the lock. Who has to wait for it tries again for some microseconds, as most steps take
-    /// less than a sleep does; and then is counted, as come and then as served, and sleeps. It
-    /// takes no memory.
-    pub fn lock<R: Wait>(&self, rt: &R) -> MutexGuard<'_, T> {
+    // Takes the lock: tries a few times, and then is counted and sleeps.
+    fn take<R: Wait>(&self, rt: &R) -> MutexGuard<'_, T> {
         if let Some(held) = self.spin() {
             return held;
         }
@@ -74,5 +74,18 @@ impl<T> Lock<T> {
             served: _served,
         } = self;
         held.into_inner()
+    }
+}
+
+impl<T: Ranked> Lock<T> {
+    /// Takes the lock, which is behind each that the thread holds. Who has to wait for it tries
+    /// again a few times, as most steps take less than a sleep does; and then is counted, as come
+    /// and then as served, and sleeps. It takes no memory.
+    pub fn lock<R: Wait>(&self, rt: &R, order: &mut Order) -> MutexGuard<'_, T>
+        requires { order.old < T.level }
+        ensures { order.new ≡ T.level }
+    {
+        order.rise(T::level());
+        self.take(rt)
     }
 }

@@ -2,8 +2,8 @@
 ghost use Rattle.std.specs.Prelude.{◌≡◌, OnOk, length};
 ghost use Rattle.catalog.specs.declared.four.Four.{Four};
 ghost use Rattle.catalog.specs.Fours.{which_of};
-ghost use Rattle.shelf.specs.Shelves.{ShelfState};
-ghost use Rattle.txn.specs.declared.steps.Action.{Action};
+ghost use Rattle.steps.specs.Shelves.{ShelfState};
+ghost use Rattle.txn.specs.declared.actions.Action.{Action};
 ghost use Rattle.txn.specs.Shelved.{IsServed, SettlesMade};
 ghost use Rattle.desks.specs.Seen.{Steps};
 ghost use Rattle.desks.specs.Touches.{IsKnown, LeadsKnown};
@@ -19,8 +19,8 @@ use calls::{Kind, Refusal};
 use catalog::{Four, Parts};
 use group_commit::{ClientSeat, Twin, TwinNear};
 use records::Coded;
-use shelf::Shelf;
 use std::marker::Brand;
+use steps::Shelf;
 use txn::Journal;
 
 impl<J: Naming, B: Coded> Desk<J, B> {
@@ -45,9 +45,11 @@ impl<J: Naming, B: Coded> Desk<J, B> {
             journal,
             nears,
             seat,
+            counts,
             ..
         } = self;
         let made = make_over(&shelves.twins, journal, nears, me, held, name, kind);
+        counts.note_commit(made.is_ok());
         note::<Brand, _>(&shared.line, seat, me, &(name, kind, &made));
         wake(&shared.signal, journal, made.is_ok());
         made

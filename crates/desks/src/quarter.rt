@@ -1,5 +1,5 @@
 // Which of the four shelves a lock is of.
-ghost use Rattle.std.specs.Prelude.{◌≡◌};
+ghost use Rattle.std.specs.Prelude.{◌≡◌, ◌<◌};
 ghost use Rattle.catalog.specs.Fours.{rank, which_of};
 
 /// Which of the four shelves a lock is of: each has a type for it, so that a lock which is taken is
@@ -13,7 +13,8 @@ pub trait Quarter {
     /// Its place, from 0 to 3.
     fn place() -> u8
         ensures rank { result ≡ rank which }
-        ensures which { which_of result ≡ which };
+        ensures which { which_of result ≡ which }
+        ensures small { result < 4 };
 }
 
 /// The shelf of the numbers 0, 4, 8 and so on.

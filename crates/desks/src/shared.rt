@@ -1,17 +1,17 @@
 // What the threads of a store share beside the locks.
 ghost use Rattle.std.specs.Prelude.{◌≡◌};
 
+use crate::WaitQueue;
 use crate::naming::Naming;
 use crate::signal::Signal;
 use calls::Format;
 use group_commit::{Accord, Handoff, Line, Mark, Numbers};
 use std::marker::PhantomData;
-use waiting::WaitQueue;
 
 /// The parts that threads share by `&`, of the store's own name: the one history, the mark, the
 /// numbers, the hand-off of blocks, the accords on what is gathered of the book and on the image
-/// that the keeper awaits, what wakes the committer, the line of clients that wait for work, and the
-/// format of the store.
+/// that the keeper awaits, what wakes the committer, the line of clients that wait for work, and
+/// the format of the store.
 #[derive(Drop)]
 pub struct Shared<J: Naming> {
     pub line: Line,

@@ -6,21 +6,22 @@ ghost use Rattle.calls.specs.Transactions.{laters_of};
 ghost use Rattle.undo_log.specs.Entries.{stamped_entry};
 ghost use Rattle.catalog.specs.Fours.{rank, pick};
 ghost use Rattle.catalog.specs.Shelving.{CopyRefused};
-ghost use Rattle.shelf.specs.Shelves.{ShelfState, CanRun, Settles, on_quarter};
-ghost use Rattle.shelf.specs.Looks.{IsLooked};
+ghost use Rattle.steps.specs.Shelves.{ShelfState, CanRun, Settles, on_quarter};
+ghost use Rattle.steps.specs.Looks.{IsLooked};
 ghost use Rattle.txn.specs.Shelved.{IsIdle};
 ghost use Rattle.desks.specs.Touches.{Leads, IsShelf};
 
 use crate::naming::Naming;
+use crate::order::Ranked;
 use crate::quarter::Quarter;
 use crate::touch::{Touch, note_touch};
 use calls::{Call, Format, Refusal, When};
 use catalog::{Parts, Shelved};
 use group_commit::{Twin, TwinFar, TwinNear};
 use records::Coded;
-use shelf::{Looked, Shelf};
 use std::marker::{Brand, Model, PhantomData};
 use std::sync::MutexGuard;
+use steps::{Looked, Shelf};
 use undo_log::Stamped;
 
 /// One of the four shelves, with the far end of its twin. Contracts see what the shelf holds, and
@@ -47,7 +48,7 @@ impl<J: Naming, B: Coded, Q: Quarter> Drop for ShelfDesk<J, B, Q> {
 }
 
 impl<J: Naming, B: Coded, Q: Quarter> Model for ShelfDesk<J, B, Q> {
-    ghost use Rattle.shelf.specs.Shelves.{ShelfState};
+    ghost use Rattle.steps.specs.Shelves.{ShelfState};
     ghost use Rattle.desks.specs.Touches.{IsShelf};
 
     ghost Value = { ShelfState B.Shelf };
@@ -55,6 +56,17 @@ impl<J: Naming, B: Coded, Q: Quarter> Model for ShelfDesk<J, B, Q> {
     ghost view = { λ d. d.shelf };
 
     ghost invariant = { λ d. IsShelf J.shelves Q.which d.shelf d.far };
+}
+
+impl<J: Naming, B: Coded, Q: Quarter> Ranked for ShelfDesk<J, B, Q> {
+    ghost use Rattle.std.specs.Prelude.{◌+◌};
+    ghost use Rattle.catalog.specs.Fours.{rank};
+
+    ghost level = { 3 + rank Q.which };
+
+    fn level() -> u8 {
+        3 + Q::place()
+    }
 }
 
 impl<J: Naming, B: Coded, Q: Quarter> ShelfDesk<J, B, Q> {

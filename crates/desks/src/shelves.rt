@@ -1,18 +1,19 @@
 // The four shelves of a store, each under a lock of its own.
-ghost use Rattle.std.specs.Prelude.{◌≡◌, [], IsFalse, IsNone, IsTrue};
+ghost use Rattle.std.specs.Prelude.{◌≡◌, ◌<◌, ◌≤◌, [], IsFalse, IsNone, IsSome, IsTrue};
 ghost use Rattle.catalog.specs.Fours.{Which, pick};
 ghost use Rattle.desks.specs.Touches.{Leads};
 
 use crate::lock::Lock;
 use crate::naming::Naming;
+use crate::order::{Order, Ranked};
 use crate::quarter::{FirstShelf, FourthShelf, SecondShelf, ThirdShelf};
 use crate::shelf_desk::ShelfDesk;
 use crate::touch::Touch;
 use catalog::{Four, Parts};
 use group_commit::{Twin, TwinFar, TwinNear};
 use records::Coded;
-use shelf::Shelf;
 use std::sync::{MutexGuard, Wait};
+use steps::Shelf;
 
 /// The four shelves, each under a lock of its own, and the twins by which the journal's lock knows
 /// what they hold. Locks are taken in this order: the gatherer's, the keeper's, those of the
@@ -79,22 +80,37 @@ impl<J: Naming, B: Coded> Shelves<J, B> {
     }
 
     /// Takes the lock of each shelf, in their order. It takes no memory.
-    pub fn lock_all<R: Wait>(&self, rt: &R) -> HeldAll<'_, J, B> {
+    pub fn lock_all<R: Wait>(&self, rt: &R, order: &mut Order) -> HeldAll<'_, J, B>
+        requires { order.old < 3 }
+        ensures { order.new ≡ 6 }
+    {
         HeldAll {
-            first: self.first.lock(rt),
-            second: self.second.lock(rt),
-            third: self.third.lock(rt),
-            fourth: self.fourth.lock(rt),
+            first: self.first.lock(rt, order),
+            second: self.second.lock(rt, order),
+            third: self.third.lock(rt, order),
+            fourth: self.fourth.lock(rt, order),
         }
     }
 
     /// Takes the locks of the shelves that are wanted, in their order. It takes no memory.
-    pub fn lock_some<R: Wait>(&self, rt: &R, wanted: &Four<bool>) -> Held<'_, J, B> {
+    pub fn lock_some<R: Wait>(
+        &self,
+        rt: &R,
+        wanted: &Four<bool>,
+        order: &mut Order,
+    ) -> Held<'_, J, B>
+        requires { order.old < 3 }
+        ensures order { order.new < 7 }
+        ensures first { IsTrue wanted.now.first → IsSome result.first }
+        ensures second { IsTrue wanted.now.second → IsSome result.second }
+        ensures third { IsTrue wanted.now.third → IsSome result.third }
+        ensures fourth { IsTrue wanted.now.fourth → IsSome result.fourth }
+    {
         Held {
-            first: lock_wanted(rt, &self.first, wanted.first),
-            second: lock_wanted(rt, &self.second, wanted.second),
-            third: lock_wanted(rt, &self.third, wanted.third),
-            fourth: lock_wanted(rt, &self.fourth, wanted.fourth),
+            first: lock_wanted(rt, &self.first, wanted.first, order),
+            second: lock_wanted(rt, &self.second, wanted.second, order),
+            third: lock_wanted(rt, &self.third, wanted.third, order),
+            fourth: lock_wanted(rt, &self.fourth, wanted.fourth, order),
         }
     }
 }
@@ -106,6 +122,8 @@ impl<J: Naming, B: Coded> Held<'_, J, B> {
         ensures second { IsTrue result → IsNone self.now.second → IsFalse needed.now.second }
         ensures third { IsTrue result → IsNone self.now.third → IsFalse needed.now.third }
         ensures fourth { IsTrue result → IsNone self.now.fourth → IsFalse needed.now.fourth }
+        ensures all { IsSome self.now.first → IsSome self.now.second → IsSome self.now.third →
+            IsSome self.now.fourth → IsTrue result }
     {
         (self.first.is_some() || !needed.first)
             && (self.second.is_some() || !needed.second)
@@ -115,13 +133,18 @@ impl<J: Naming, B: Coded> Held<'_, J, B> {
 }
 
 // Takes the lock where it is wanted.
-fn lock_wanted<'s, T, R: Wait>(
+fn lock_wanted<'s, T: Ranked, R: Wait>(
     rt: &R,
     lock: &'s Lock<T>,
     wanted: bool,
-) -> Option<MutexGuard<'s, T>> {
+    order: &mut Order,
+) -> Option<MutexGuard<'s, T>>
+    requires { order.old < T.level }
+    ensures order { order.new ≤ T.level }
+    ensures held { IsTrue wanted → IsSome result }
+{
     if !wanted {
         return None;
     }
-    Some(lock.lock(rt))
+    Some(lock.lock(rt, order))
 }

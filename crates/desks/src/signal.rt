@@ -88,8 +88,8 @@ impl Signal {
         }
     }
 
-    /// Waits while too many records wait and a committer is at work. Where that is not so, it is one
-    /// load. It takes no memory. Call it under no lock.
+    /// Waits while too many records wait and a committer is at work. Where that is not so, it is
+    /// one load. It takes no memory. Call it under no lock.
     pub fn let_drain<R: Wait>(&self, rt: &R) {
         if !self.is_crowded() {
             return;

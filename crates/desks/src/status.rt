@@ -6,18 +6,20 @@ ghost use Rattle.calls.specs.declared.refusal.Refusal.{Refusal};
 ghost use Rattle.catalog.specs.declared.four.Four.{Four};
 ghost use Rattle.catalog.specs.Fours.{Which, which_of, pick};
 ghost use Rattle.catalog.specs.Holdings.{Measures};
-ghost use Rattle.shelf.specs.Shelves.{ShelfState};
-ghost use Rattle.machine.specs.Wholes.{contents};
+ghost use Rattle.steps.specs.Shelves.{ShelfState};
+ghost use Rattle.steps.specs.Wholes.{contents};
 ghost use Rattle.txn.specs.Shelved.{book_state, IsBook, IsJournal};
 ghost use Rattle.desks.specs.Statuses.{IsStatusOf};
 ghost use Rattle.desks.specs.Told.{told_book};
 ghost use Rattle.desks.specs.Touches.{Leads};
 
 use crate::budget::Fill;
+use crate::counts::Counts;
 use crate::desk::Desk;
 use crate::extent::Extent;
 use crate::naming::Naming;
 use crate::quarter::Quarter;
+use crate::shared::Shared;
 use crate::shelf_desk::ShelfDesk;
 use crate::shelves::{HeldAll, Shelves};
 use crate::touch::Touch;
@@ -25,10 +27,10 @@ use calls::{Format, Refusal};
 use catalog::{Four, Measured, Parts};
 use group_commit::{Twin, TwinNear};
 use records::Coded;
-use shelf::Shelf;
 use std::alloc::Global;
 use std::fmt;
 use std::sync::MutexGuard;
+use steps::Shelf;
 use txn::Journal;
 
 /// How an open store stands: what its book holds now, how far its area in use was filled when its
@@ -50,14 +52,16 @@ pub struct Status {
     /// How often anything was entered, called, deferred, run in a commit or undone over the store's
     /// life, up to 2^61.
     pub wear: u64,
+    /// What was done since the store was opened.
+    pub counts: Counts,
     /// How large each collection is, in the order of making.
     pub collections: Vec<Measured>,
 }
 
 impl Status {
     /// How the book stands that a journal and these shelves are, where the area in use is filled so
-    /// far, and the store so full. It takes memory for the names of the collections, and the time of
-    /// as many names.
+    /// far, and the store so full. It takes memory for the names of the collections, and the time
+    /// of as many names.
     ///
     /// NoMemory alone is refused.
     pub fn of<B: Coded>(
@@ -66,13 +70,14 @@ impl Status {
         shelves: &Four<&Shelf<B::Shelf>>,
         extent: Extent,
         fill: Fill,
+        counts: Counts,
     ) -> Result<Self, Refusal>
         requires kept { IsJournal B.meaning B.making B.collections B.whole B.fits journal.now }
         ensures told { (f : Four (ShelfState B.Shelf)) →
             IsBook B.meaning B.making B.collections B.whole B.fits journal.now f →
             ((w : Which) → (pick shelves.now w).now ≡ pick f w) →
             IfOk result (IsStatusOf (told_book B.collections (book_state B.whole journal.now f))
-            extent fill) }
+            extent fill counts) }
         ensures refusal { (f : Four (ShelfState B.Shelf)) →
             IsBook B.meaning B.making B.collections B.whole B.fits journal.now f →
             ((w : Which) → (pick shelves.now w).now ≡ pick f w) →
@@ -86,12 +91,13 @@ impl Status {
             waiting: journal.waiting(),
             next: journal.next(),
             wear: journal.wear(),
+            counts,
             collections: measure(alloc, journal, shelves)?,
         })
     }
 
     // The numbers that are told behind the format, with their names.
-    fn numbers(&self) -> [(&'static str, u64); 9] {
+    fn numbers(&self) -> [(&'static str, u64); 14] {
         [
             ("area", self.extent.area),
             ("in_use", u64::from(!self.extent.first)),
@@ -102,17 +108,28 @@ impl Status {
             ("waiting", self.waiting as u64),
             ("next", self.next),
             ("wear", self.wear),
+            ("commits", self.counts.commits),
+            ("aborts", self.counts.aborts),
+            ("blocks", self.counts.blocks),
+            ("checkpoints", self.counts.checkpoints),
+            ("sleeping", self.counts.sleeping),
         ]
     }
 }
 
-/// One line, without its line feed: names with their values, a semicolon and a space between two,
-/// and each collection with its kind, its name and how many items it has.
+/// One line, without its line feed: names with their values, a semicolon and a space between two;
+/// each kind of which calls were refused Busy, with how many; and each collection with its kind,
+/// its name and how many items it has.
 impl fmt::Display for Status {
     fn fmt<W: fmt::Write>(&self, f: &mut fmt::Formatter<W>) -> fmt::Result {
         write!(f, "format {}", self.format.number())?;
         for (name, number) in self.numbers() {
             write!(f, "; {name} {number}")?;
+        }
+        for (kind, count) in self.counts.each_busy() {
+            if count > 0 {
+                write!(f, "; busy {kind} {count}")?;
+            }
         }
         for Measured { kind, name, items } in &self.collections {
             write!(f, "; collection {kind} {} {items}", name.as_str())?;
@@ -131,6 +148,7 @@ impl<J: Naming, B: Coded> Desk<J, B> {
         &mut self,
         alloc: Global,
         shelves: &Shelves<J, B>,
+        shared: &Shared<J>,
         held: &mut HeldAll<'_, J, B>,
     ) -> Result<Status, Refusal>
         ensures { IsOkUnless result Refusal.NoMemory }
@@ -140,6 +158,7 @@ impl<J: Naming, B: Coded> Desk<J, B> {
             nears,
             extent,
             budget,
+            counts,
             ..
         } = self;
         compare(&shelves.twins.first, &mut nears.first, &mut held.first);
@@ -152,7 +171,8 @@ impl<J: Naming, B: Coded> Desk<J, B> {
             third: shelf_of(&held.third),
             fourth: shelf_of(&held.fourth),
         };
-        Status::of(alloc, journal, &four, *extent, budget.fill())
+        let counts = counts.with_sleeping(shared.waiting.count());
+        Status::of(alloc, journal, &four, *extent, budget.fill(), counts)
     }
 }
 

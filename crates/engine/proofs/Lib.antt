@@ -1,0 +1,3 @@
+pub mod OfBook
+pub mod KeeperLemmas
+pub mod Packed

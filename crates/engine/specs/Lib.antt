@@ -1,1 +1,3 @@
 pub mod Rooms
+pub mod Marks
+pub mod Gatherings

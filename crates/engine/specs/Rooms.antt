@@ -2,20 +2,20 @@
 use Rattle.std.specs.Prelude.{◌≡◌, ◌≢◌, ◌⊎◌, ℕ, ◌+◌, ◌-◌, ◌^◌, ◌<◌, ◌≤◌, min, List, [], length}
 use Rattle.std.specs.Prelude.{Option, None, Some, Result, Ok, Err}
 use Rattle.calls.specs.declared.refusal.Refusal.{Refusal}
-use Rattle.gate_block.specs.Area.{size_of, position_of}
+use Rattle.gate_block.specs.Area.{size_of, offset_of}
 use Rattle.gate_block.specs.Row.{block_head}
-use Rattle.record_format.specs.declared.record.Record.{Record}
-use Rattle.blocks.specs.Cuts.{IsNextBlock}
-use Rattle.blocks.specs.declared.draft.NextBlock.{NextBlock}
+use Rattle.records.specs.declared.record.Record.{Record}
+use Rattle.records.specs.Cuts.{IsNextBlock}
+use Rattle.records.specs.declared.draft.NextBlock.{NextBlock}
 use Rattle.checkpoint.specs.Imaging.{end_of}
 use Rattle.checkpoint.specs.Keepers.{KeeperState}
 use Rattle.checkpoint.specs.declared.turn.Turn.{Turn}
-use Rattle.undoing.specs.Undoing.{blocks_len}
+use Rattle.replay.specs.Undoing.{blocks_len}
 use Rattle.engine.specs.declared.room.Room.{Room}
 
 -- The room behind the blocks of a keeper's area.
 pub record IsRoomOf {D : Type 0} (k : KeeperState D) (room : Room) : Type 0 where
-  pub free : room.free + position_of k.area ≡ size_of k.area
+  pub free : room.free + offset_of k.area ≡ size_of k.area
   pub covered : room.covered ≡ k.covered
   pub image_end : room.image_end ≡ end_of k.stage
 

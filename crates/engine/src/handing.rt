@@ -31,7 +31,7 @@ pub fn undoing_behind<B: Coded>(
         return Ok(before);
     };
     let behind = journal.waiting() as u64 - next.records;
-    let end = journal.position() - behind;
+    let end = journal.lsn() - behind;
     let most = before.saturating_add(next.records);
     if room.covers(end) {
         return Ok(most);
@@ -53,9 +53,9 @@ pub fn undoing_behind<B: Coded>(
     }
 }
 
-/// What a turn tells: what the keeper's turn did; and where that was idle and a block was not handed
-/// over, why. Held where it waits for the image that is being written, and Full where it does not
-/// fit.
+/// What a turn tells: what the keeper's turn did; and where that was idle and a block was not
+/// handed over, why. Held where it waits for the image that is being written, and Full where it
+/// does not fit.
 pub fn told(barred: Option<Refusal>, turned: Result<Turn, Refusal>) -> Result<Turn, Refusal>
     ensures { result ≡ told barred turned }
 {

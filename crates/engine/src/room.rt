@@ -6,7 +6,7 @@ use calls::Refusal;
 use checkpoint::Keeper;
 use disk_model::Disk;
 use gate_block::BLOCK_HEAD;
-use undoing::blocks_len;
+use replay::blocks_len;
 
 /// Where the next block of a store would go.
 #[derive(Clone, Copy)]

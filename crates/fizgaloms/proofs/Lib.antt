@@ -1,0 +1,5 @@
+pub mod Knowing
+pub mod TicketLemmas
+pub mod Trying
+pub mod WorkLemmas
+pub mod SecondRun

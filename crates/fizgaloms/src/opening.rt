@@ -3,6 +3,7 @@ ghost use Rattle.std.specs.Prelude.{◌≤◌, ◌↔◌, IfOk, IsOk, IsOkUnless
 ghost use Rattle.calls.specs.declared.refusal.Refusal.{Refusal};
 ghost use Rattle.disk_model.specs.Disk.{IsAtRest};
 
+use crate::{Access, FileError, LockedFile, Place, open};
 use calls::Refusal;
 use calls::limits::{MAX_AREA, MIN_AREA};
 use disk_model::{Content, Disk, FileDisk};
@@ -11,7 +12,6 @@ use recovery::format;
 use std::fs::{self, File};
 use std::io;
 use std::rt::Files;
-use store_file::{Access, FileError, LockedFile, Place, open};
 
 /// Why the file of a store is not opened.
 #[derive(Debug, Drop, thiserror::Error)]

@@ -9,7 +9,7 @@ use Rattle.disk_model.specs.Disk.{LeavesOnly, IsAtRest}
 use Rattle.disk_model.proofs.Walk.{leaves_now}
 use Rattle.gate_block.specs.declared.area.Area.{Area}
 use Rattle.gate_block.specs.Row.{block, row, IsBody, IsRow, StandsAt, IsBroken}
-use Rattle.gate_block.specs.Area.{bytes_of, position_of, IsReady, LeavesBlocks}
+use Rattle.gate_block.specs.Area.{bytes_of, offset_of, IsReady, LeavesBlocks}
 use Rattle.gate_block.proofs.Unique.{first_block}
 
 five_more : (n : ℕ) → suc (suc (suc (suc (suc n)))) ≡ 5 + n
@@ -121,15 +121,15 @@ not_broken done (b ∷ more) bytes p here is_row broken =
           take_at (block b) tail (5 + length b) (length-block b);
     })
 
--- An area of a disk at rest is ready where its position is behind its blocks.
+-- An area of a disk at rest is ready where its offset is behind its blocks.
 pub ready : {D : Type 0} (seen : D → List ℕ) (may_leave : D → List ℕ → Type 0) (area : Area)
     (disk : D) (bodies : List (List ℕ))
-    → IsRow bodies (bytes_of area (seen disk)) → position_of area ≡ length (row bodies) →
+    → IsRow bodies (bytes_of area (seen disk)) → offset_of area ≡ length (row bodies) →
     IsAtRest seen may_leave disk → IsReady seen may_leave area disk bodies
-ready seen may_leave area disk bodies holds position rest =
+ready seen may_leave area disk bodies holds offset rest =
     record {
       holds = holds;
-      position = position;
+      offset = offset;
       at_rest = λ c left. ap (λ (l : List ℕ). bytes_of area l) (rest c left);
     }
 

@@ -8,7 +8,7 @@ use Rattle.std.specs.List.{AllByRecursion}
 use Rattle.disk_model.specs.Disk.{Torn, Overwritten, Follows, Elapses, LeavesOnly}
 use Rattle.disk_model.proofs.Walk.{started, goes_on}
 use Rattle.gate_block.specs.declared.area.Area.{Area}
-use Rattle.gate_block.specs.Area.{base_of, size_of, position_of, LeavesElsewhere}
+use Rattle.gate_block.specs.Area.{base_of, size_of, offset_of, LeavesElsewhere}
 use Rattle.gate_block.specs.Row.{row, part, IsBody, IsRow, IsBlockOf}
 use Rattle.gate_block.proofs.Parts.{in_part, outside, written_there}
 use Rattle.gate_block.proofs.Rows.{counts}
@@ -45,10 +45,10 @@ lays base size p bodies body bytes s new is_block room inside here holds written
 -- what one write inside an area leaves is as before outside of it
 pub leaves_elsewhere : {D : Type 0} (moment : D → ℕ) (left_since : D → ℕ → List ℕ → Type 0)
     (before after : List ℕ → Type 0) (old new : D) (area : Area) (m : ℕ) →
-    position_of area + m ≤ size_of area
+    offset_of area + m ≤ size_of area
     → ((c : List ℕ) → left_since old (moment old) c → before c) →
     Elapses (moment old) (moment new) (left_since old) (left_since new) after →
-    Follows (Torn (base_of area + position_of area) m) before after
+    Follows (Torn (base_of area + offset_of area) m) before after
     → LeavesOnly moment left_since old new (LeavesElsewhere before area)
 leaves_elsewhere moment left_since before after old new area m room only_now time follows =
     goes_on moment left_since old old new (LeavesElsewhere before area) after
@@ -58,8 +58,8 @@ leaves_elsewhere moment left_since before after old new area m room only_now tim
     (λ c left. let was = follows c left in (
       was.0,
       was.1,
-      outside (base_of area) (size_of area) (base_of area + position_of area)
-          (position_of area) m refl room was.0 c was.2,
+      outside (base_of area) (size_of area) (base_of area + offset_of area)
+          (offset_of area) m refl room was.0 c was.2,
     ))
 
 pub use_ok : {T E : Type 0} (P : Type 0) (r : Result T E) → is_err r ≡ false → OnOk r P → P

@@ -15,8 +15,8 @@ abbrev pub size_of : Area → ℕ
 size_of a = a.size
 
 -- where in the area the next gate stands
-abbrev pub position_of : Area → ℕ
-position_of a = a.position
+abbrev pub offset_of : Area → ℕ
+offset_of a = a.offset
 
 -- a call on it answered that the disk failed
 abbrev pub has_failed : Area → Bool
@@ -26,12 +26,12 @@ has_failed a = a.failed
 abbrev pub bytes_of : Area → List ℕ → List ℕ
 bytes_of a disk = part a.base a.size disk
 
--- the area holds these blocks, its position is behind them, and a stop now leaves of the area what
--- a read gives
+-- the area holds these blocks, its offset is behind them, and a stop now leaves of the area what a
+-- read gives
 pub record IsReady {D : Type 0} (seen : D → List ℕ) (may_leave : D → List ℕ → Type 0) (area : Area)
     (disk : D) (bodies : List (List ℕ)) : Type 0 where
   pub holds : IsRow bodies (bytes_of area (seen disk))
-  pub position : position_of area ≡ length (row bodies)
+  pub offset : offset_of area ≡ length (row bodies)
   pub at_rest : (c : List ℕ) → may_leave disk c → bytes_of area c ≡ bytes_of area (seen disk)
 
 -- the area holds these blocks, and a stop now leaves of the disk what a read gives
@@ -41,10 +41,10 @@ pub record HoldsRow {D : Type 0} (seen : D → List ℕ) (may_leave : D → List
   pub at_rest : IsAtRest seen may_leave disk
 
 -- The blocks of these bodies were laid one after another from the area's start on, with a closed
--- gate behind them, and its position is behind them.
+-- gate behind them, and its offset is behind them.
 -- Where there is none, anything may stand there.
 pub record IsLaid (area : Area) (disk : List ℕ) (bodies : List (List ℕ)) : Type 0 where
-  pub position : position_of area ≡ length (row bodies)
+  pub offset : offset_of area ≡ length (row bodies)
   pub holds : bodies ≢ [] → IsRow bodies (bytes_of area disk)
 
 -- a stop leaves each byte outside the area as it might have left it before
@@ -66,5 +66,5 @@ body_in (Some v) = Some (v.items)
 
 -- the place is that of the area's next gate, which is broken where the disk read true
 pub record IsDamage (is_honest : Type 0) (area : Area) (disk : List ℕ) (place : ℕ) : Type 0 where
-  pub here : place ≡ base_of area + position_of area
-  pub broken : is_honest → IsBroken (bytes_of area disk) (position_of area)
+  pub here : place ≡ base_of area + offset_of area
+  pub broken : is_honest → IsBroken (bytes_of area disk) (offset_of area)

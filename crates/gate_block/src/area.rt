@@ -16,9 +16,9 @@ use std::alloc::Global;
 pub struct Area {
     base: u64,
     size: u64,
-    position: u64,
+    offset: u64,
     failed: bool,
-    ghost inside: { position < size },
+    ghost inside: { offset < size },
     ghost fits: { base + size < 2 ^ 64 },
 }
 
@@ -27,24 +27,24 @@ impl Area {
     ghost use Rattle.gate_block.specs.Row.{row, IsRow, IsBlockOf, SameOutside, Finds};
     ghost use Rattle.gate_block.specs.Answers.{IsPlaceAnswer, IsAppendAnswer, IsNextAnswer};
     ghost use Rattle.gate_block.specs.Answers.{IsReadError};
-    ghost use Rattle.gate_block.specs.Area.{base_of, size_of, position_of, has_failed, IsReady};
+    ghost use Rattle.gate_block.specs.Area.{base_of, size_of, offset_of, has_failed, IsReady};
     ghost use Rattle.gate_block.specs.Area.{IsLaid, HoldsRow, LeavesBlocks, LeavesElsewhere};
     ghost use Rattle.gate_block.specs.Area.{bytes_of, body_in, IsDamage};
 
-    /// The area of so many bytes from the base on, whose next gate stands at that position of it.
+    /// The area of so many bytes from the base on, whose next gate stands at that offset of it.
     /// It has not failed.
-    pub fn start(base: u64, size: u64, position: u64) -> Area
-        requires inside { position < size }
+    pub fn start(base: u64, size: u64, offset: u64) -> Area
+        requires inside { offset < size }
         requires fits { base + size < 2 ^ 64 }
         ensures base { base_of result ≡ base }
         ensures size { size_of result ≡ size }
-        ensures position { position_of result ≡ position }
+        ensures offset { offset_of result ≡ offset }
         ensures failed { has_failed result ≡ false }
     {
         Area {
             base,
             size,
-            position,
+            offset,
             failed: false,
         }
     }
@@ -65,21 +65,21 @@ impl Area {
 
     /// How many bytes the area has behind its blocks, with the next gate.
     pub fn room(&self) -> u64
-        ensures { result + position_of self.now ≡ size_of self.now }
+        ensures { result + offset_of self.now ≡ size_of self.now }
     {
-        self.size - self.position
+        self.size - self.offset
     }
 
     // Whether a block has its place at the next gate: refused Failed and then Full, as `append`
     // says.
     fn check_place(&self, block: &[u8]) -> Result<(), Refusal>
         ensures { IsPlaceAnswer (has_failed self.now)
-            (size_of self.now < position_of self.now + length block.now) result }
+            (size_of self.now < offset_of self.now + length block.now) result }
     {
         if self.failed {
             return Err(Refusal::Failed);
         }
-        if block.len() as u64 > self.size - self.position {
+        if block.len() as u64 > self.size - self.offset {
             return Err(Refusal::Full);
         }
         Ok(())
@@ -88,7 +88,7 @@ impl Area {
     // Writes a block behind its closed gate, and then opens the gate.
     fn write_block<D: Disk>(&self, disk: &mut D, block: &[u8]) -> Result<(), Fault>
         requires block { (body : List ℕ) × IsBlockOf body block.now }
-        requires room { position_of self.now + length block.now ≤ size_of self.now }
+        requires room { offset_of self.now + length block.now ≤ size_of self.now }
         requires disk { base_of self.now + size_of self.now ≤ length (D.seen disk.old) }
         ensures kept { (bodies : List (List ℕ)) (body : List ℕ) → IsBlockOf body block.now →
             IsReady D.seen D.may_leave self.now disk.old bodies →
@@ -101,14 +101,14 @@ impl Area {
             (LeavesElsewhere (D.may_leave disk.old) self.now) }
         ensures counts { (bodies : List (List ℕ)) (body : List ℕ) → IsBlockOf body block.now →
             IsRow bodies (bytes_of self.now (D.seen disk.old)) →
-            position_of self.now ≡ length (row bodies) →
+            offset_of self.now ≡ length (row bodies) →
             OnOk result (IsRow (bodies ++ body ∷ []) (bytes_of self.now (D.seen disk.new))) }
         ensures elsewhere { SameOutside (base_of self.now) (size_of self.now)
             (D.seen disk.old) (D.seen disk.new) }
         ensures honest { D.is_honest disk.new → D.is_honest disk.old }
         ensures cause { HasCause (D.fault_count disk.old) (D.fault_count disk.new) result }
     {
-        let gate = self.base + self.position;
+        let gate = self.base + self.offset;
         write_and_sync(disk, gate + 1, &block[1..])?;
         write_and_sync(disk, gate, &[OPEN])
     }
@@ -129,7 +129,7 @@ impl Area {
         requires disk { base_of self.old + size_of self.old ≤ length (D.seen disk.old) }
         // What it answers, and that a refusal without a Fault changes nothing.
         ensures answer { IsAppendAnswer (has_failed self.old) (has_failed self.new)
-            (size_of self.old < position_of self.old + length block.now)
+            (size_of self.old < offset_of self.old + length block.now)
             (Rises (D.fault_count disk.old) (D.fault_count disk.new)) result }
         ensures failed { IsErrOf result Refusal.Failed →
             (self.new ≡ self.old) × (disk.new ≡ disk.old) }
@@ -137,9 +137,9 @@ impl Area {
         // Where the area is then, and its next gate.
         ensures base { base_of self.new ≡ base_of self.old }
         ensures size { size_of self.new ≡ size_of self.old }
-        ensures position { OnOk result (position_of self.new + 1 ≡
-            position_of self.old + length block.now) }
-        ensures position_err { OnErr result (position_of self.new ≡ position_of self.old) }
+        ensures offset { OnOk result (offset_of self.new + 1 ≡
+            offset_of self.old + length block.now) }
+        ensures offset_err { OnErr result (offset_of self.new ≡ offset_of self.old) }
         // What the disk holds then. Also where a stop might leave another: where a read gives
         // blocks up to the next gate, it gives the new one behind them then.
         ensures kept { (bodies : List (List ℕ)) (body : List ℕ) → IsBlockOf body block.now →
@@ -147,7 +147,7 @@ impl Area {
             OnOk result (IsReady D.seen D.may_leave self.new disk.new (bodies ++ body ∷ [])) }
         ensures counts { (bodies : List (List ℕ)) (body : List ℕ) → IsBlockOf body block.now →
             IsRow bodies (bytes_of self.old (D.seen disk.old)) →
-            position_of self.old ≡ length (row bodies) →
+            offset_of self.old ≡ length (row bodies) →
             OnOk result (IsRow (bodies ++ body ∷ []) (bytes_of self.new (D.seen disk.new))) }
         ensures elsewhere { SameOutside (base_of self.old) (size_of self.old)
             (D.seen disk.old) (D.seen disk.new) }
@@ -167,7 +167,7 @@ impl Area {
             self.failed = true;
             return Err(Refusal::Fault);
         }
-        self.position += block.len() as u64 - 1;
+        self.offset += block.len() as u64 - 1;
         Ok(())
     }
 
@@ -187,7 +187,7 @@ impl Area {
         requires disk { base_of self.old + size_of self.old ≤ length (D.seen disk.old) }
         // What it answers, and that a refusal without a Fault changes nothing.
         ensures answer { IsAppendAnswer (has_failed self.old) (has_failed self.new)
-            (size_of self.old < position_of self.old + length block.now)
+            (size_of self.old < offset_of self.old + length block.now)
             (Rises (D.fault_count disk.old) (D.fault_count disk.new)) result }
         ensures failed { IsErrOf result Refusal.Failed →
             (self.new ≡ self.old) × (disk.new ≡ disk.old) }
@@ -195,9 +195,9 @@ impl Area {
         // Where the area is then, and its next gate.
         ensures base { base_of self.new ≡ base_of self.old }
         ensures size { size_of self.new ≡ size_of self.old }
-        ensures position { OnOk result (position_of self.new + 1 ≡
-            position_of self.old + length block.now) }
-        ensures position_err { OnErr result (position_of self.new ≡ position_of self.old) }
+        ensures offset { OnOk result (offset_of self.new + 1 ≡
+            offset_of self.old + length block.now) }
+        ensures offset_err { OnErr result (offset_of self.new ≡ offset_of self.old) }
         // What the disk holds then.
         ensures laid { (bodies : List (List ℕ)) (body : List ℕ) → IsBlockOf body block.now →
             IsLaid self.old (D.seen disk.old) bodies →
@@ -212,11 +212,11 @@ impl Area {
         ensures faults { D.fault_count disk.old ≤ D.fault_count disk.new }
     {
         self.check_place(block)?;
-        if disk.write_at(self.base + self.position, block).is_err() {
+        if disk.write_at(self.base + self.offset, block).is_err() {
             self.failed = true;
             return Err(Refusal::Fault);
         }
-        self.position += block.len() as u64 - 1;
+        self.offset += block.len() as u64 - 1;
         Ok(())
     }
 
@@ -224,9 +224,9 @@ impl Area {
     fn read_block<D: Disk>(&self, alloc: Global, disk: &mut D) -> Result<Option<Vec<u8>>, ReadError>
         requires { base_of self.now + size_of self.now ≤ length (D.seen disk.old) }
         ensures found { IfOk result (λ found. D.is_honest disk.new →
-            Finds (bytes_of self.now (D.seen disk.old)) (position_of self.now) (body_in found)) }
+            Finds (bytes_of self.now (D.seen disk.old)) (offset_of self.now) (body_in found)) }
         ensures room { IfOk result (λ found. IfSome found
-            (λ body. position_of self.now + 6 + length body.items ≤ size_of self.now)) }
+            (λ body. offset_of self.now + 6 + length body.items ≤ size_of self.now)) }
         ensures error { IfErr result (IsReadError
             (Rises (D.fault_count disk.old) (D.fault_count disk.new))
             (IsDamage (D.is_honest disk.new) self.now (D.seen disk.old))) }
@@ -234,13 +234,13 @@ impl Area {
         ensures honest { D.is_honest disk.new → D.is_honest disk.old }
         ensures faults { D.fault_count disk.old ≤ D.fault_count disk.new }
     {
-        let gate = self.base + self.position;
+        let gate = self.base + self.offset;
         let mut open = [0; 1];
         read(disk, gate, &mut open)?;
         if open[0] != OPEN {
             return Ok(None);
         }
-        let room = self.size - self.position;
+        let room = self.size - self.offset;
         if room < 6 {
             return Err(ReadError::Damaged(gate));
         }
@@ -259,7 +259,7 @@ impl Area {
     /// Refusals: `Failed` where the area has failed; `Damaged`, with the gate's place on the disk,
     /// where the gate is open and the length behind it is 0, over 65,535, or more than has room;
     /// `NoMemory` where there is none for the body; `Fault`, after which the area has failed. The
-    /// position stays at each of them.
+    /// offset stays at each of them.
     pub fn next_block<D: Disk>(
         &mut self,
         alloc: Global,
@@ -267,16 +267,16 @@ impl Area {
     ) -> Result<Option<Vec<u8>>, Refusal>
         requires { base_of self.old + size_of self.old ≤ length (D.seen disk.old) }
         ensures found { IfOk result (λ found. D.is_honest disk.new →
-            Finds (bytes_of self.old (D.seen disk.old)) (position_of self.old) (body_in found)) }
+            Finds (bytes_of self.old (D.seen disk.old)) (offset_of self.old) (body_in found)) }
         ensures answer { IsNextAnswer (has_failed self.old) (has_failed self.new)
             (Rises (D.fault_count disk.old) (D.fault_count disk.new))
             (IsDamage (D.is_honest disk.new) self.old (D.seen disk.old)) result }
         ensures base { base_of self.new ≡ base_of self.old }
         ensures size { size_of self.new ≡ size_of self.old }
-        ensures position { IfOk result (λ found. MatchOption found
-            (position_of self.new ≡ position_of self.old)
-            (λ body. position_of self.new ≡ position_of self.old + 5 + length body.items)) }
-        ensures position_err { OnErr result (position_of self.new ≡ position_of self.old) }
+        ensures offset { IfOk result (λ found. MatchOption found
+            (offset_of self.new ≡ offset_of self.old)
+            (λ body. offset_of self.new ≡ offset_of self.old + 5 + length body.items)) }
+        ensures offset_err { OnErr result (offset_of self.new ≡ offset_of self.old) }
         ensures reads { ReadsOnly D.seen D.may_leave D.moment D.left_since disk.old disk.new }
         ensures honest { D.is_honest disk.new → D.is_honest disk.old }
         ensures faults { D.fault_count disk.old ≤ D.fault_count disk.new }
@@ -286,7 +286,7 @@ impl Area {
         }
         match self.read_block(alloc, disk) {
             Ok(Some(body)) => {
-                self.position += 5 + body.len() as u64;
+                self.offset += 5 + body.len() as u64;
                 Ok(Some(body))
             }
             Ok(None) => Ok(None),

@@ -10,7 +10,7 @@ use std::alloc::AllocError;
 #[derive(Clone, Copy)]
 pub(crate) enum ReadError {
     NoMemory,
-    /// The position on the disk of the block's gate.
+    /// The offset on the disk of the block's gate.
     Damaged(u64),
     Fault,
 }

@@ -5,7 +5,7 @@ use mathlib.Core.Option.{some}
 use lib.ListN.{get_elem?}
 use Rattle.images.specs.Gathers.{GatherState}
 use Rattle.group_commit.specs.declared.accord.Sides.{Sides}
-use Rattle.group_commit.specs.Accords.{nothing_gathered}
+use Rattle.images.specs.Gathers.{nothing_gathered}
 use Rattle.group_commit.specs.Agreeing.{near_side, far_side, both_sides, no_side, Fits, Agreed}
 use Rattle.group_commit.proofs.Seats.{Each, each_one, each_set, each_push, other_view}
 

@@ -2,7 +2,7 @@
 use Rattle.std.proofs.Common.{◌≡◌, ◌≢◌, ℕ, true, false, true≢false, List, [], ◌∷◌, ◌++◌, length}
 use Rattle.std.proofs.Common.{set, sym, refl, ap, ◌∙◌, append_assoc, length-append, arith}
 use Rattle.crossbeam_queue.specs.Fifo.{Pushes, Pops, Forks, Merges, Learns}
-use Rattle.blocks.specs.declared.block.Block.{Block}
+use Rattle.records.specs.declared.block.Block.{Block}
 use Rattle.images.specs.Gathers.{GatherState}
 use Rattle.group_commit.specs.declared.handoff.Log.{Log}
 use Rattle.group_commit.specs.Orders.{AreInTransit}

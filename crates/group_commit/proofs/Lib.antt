@@ -1,4 +1,5 @@
 pub mod Agreements
+pub mod Counting
 pub mod Drawers
 pub mod Handing
 pub mod Marking

@@ -10,18 +10,20 @@ use mathlib.Core.List.{IsPrefix}
 use mathlib.Core.Logic.{dite}
 use native.Mathlib.Decide.{dec_le}
 use lib.ListN.{get_elem?}
-use Rattle.txn.specs.declared.steps.BookStep.{BookStep}
+use Rattle.txn.specs.declared.actions.BookStep.{BookStep}
 use Rattle.group_commit.specs.declared.view.Party.{Party}
 use Rattle.group_commit.specs.declared.view.View.{View}
 use Rattle.group_commit.specs.EndLaws.{same_end}
-use Rattle.group_commit.specs.Lines.{is_client, concerns, steps_of, IsLonger}
+use Rattle.group_commit.specs.Lines.{is_client, concerns, steps_of, numbers_of, IsLonger, AreOf}
+use Rattle.group_commit.specs.Lines.{HaveSeenOne}
 use Rattle.group_commit.specs.Parties.{Among, Has, Distinct, Sit}
 use Rattle.group_commit.specs.Histories.{party, number_of, hosting, alone, book, client, nobody}
 use Rattle.group_commit.specs.Histories.{admitting, admitted, boarded, without_first, first_alone}
 use Rattle.group_commit.specs.Histories.{Began, Agrees, Keeps, Fits, Kept, all_seeing, tallied}
-use Rattle.group_commit.specs.Histories.{informed, IsTold, AllBegan, Met}
+use Rattle.group_commit.specs.Histories.{informed, IsTold, AllBegan, Met, IsNumber, AreCounted}
 use Rattle.group_commit.proofs.Seats.{Each, each_one, each_set}
 use Rattle.group_commit.proofs.Sitting as sitting
+use Rattle.group_commit.proofs.Counting.{different, only_these}
 
 off : {X : Type 0} → false ≡ true → X
 off e = absurd (true≢false (sym e))
@@ -191,7 +193,7 @@ begins = record {
   made = 0;
   seat_of = λ n. 0;
   log = [];
-  fresh = λ n lt. refl;
+  fresh = λ n no. refl;
   fits = each_one (Fits 0 0 (λ n. 0) []) (book [] 0)
       ((λ is. (refl, refl, refl)), sitting.nobody_sits number_of (Agrees 0 []) (λ n. 0) 0);
 }
@@ -228,14 +230,16 @@ module _ (views : List View) (k : Kept views) (id : ℕ) (v : View)
       (party (v.made + 1) []) at
       (λ j u e. (k.fits j u e).1)
       (λ j u other e is. absurd (other (((k.fits j u e).0 is).0 ∙ sym here.0)))
-      (λ q a same. let le = a.numbered in let m = here.2 in
+      (λ q a same. let le = a.numbered.1 in let m = here.2 in
       let n : q.number ≡ v.made + 1 = same in absurd (omega arith))
-      (λ q a. record { numbered = let le = a.numbered in omega arith; began = a.began })
+      (λ q a. record {
+        numbered = (a.numbered.0, let le = a.numbered.1 in omega arith);
+        began = a.began;
+      })
       record {
-        numbered = let m = here.2 in
-            omega arith;
+        numbered = (omega arith, let m = here.2 in omega arith);
         began = began_nothing (v.made + 1) k.log
-            (k.fresh (v.made + 1) (let m = here.2 in omega arith));
+            (k.fresh (v.made + 1) (λ is. let le = is.1 in let m = here.2 in omega arith));
       }
       refl refl
       (λ is. (here.0, here.1, let m = here.2 in omega arith))
@@ -245,7 +249,7 @@ module _ (views : List View) (k : Kept views) (id : ℕ) (v : View)
         made = made;
         seat_of = r.0;
         log = k.log;
-        fresh = λ n lt. k.fresh n (omega arith);
+        fresh = λ n no. k.fresh n (λ is. no (is.0, let le = is.1 in omega arith));
         fits = r.1;
       }
 
@@ -274,10 +278,26 @@ module _ (views : List View) (k : Kept views) (id : ℕ) (v : View)
   all_began : AllBegan k.log v.parties
   all_began p h = ((k.fits id v at).1.each p h).1.began
 
-  pub compares : v.keeps ≡ true → Kept (set views id v) × AllBegan v.all v.parties
-  compares keeps =
-      let here = (k.fits id v at).0 keeps in
-      (refit v (k.fits id v at), λ p h. subst (λ l. Began l p) (sym here.1) (all_began p h))
+  pub counts : v.keeps ≡ true → Kept (set views id v) × AreCounted v.parties v.made v.all
+  counts keeps =
+      let f = k.fits id v at in
+      let here = f.0 keeps in (
+        refit v f,
+        record {
+          began = λ p h. subst (λ l. Began l p) (sym here.1) (all_began p h);
+          apart = different v.parties f.1.apart;
+          only = λ whole. subst (AreOf (numbers_of v.parties)) (sym here.1)
+              (only_these k.made k.log v.parties f.1.apart
+              (λ p h. (f.1.each p h).1.numbered) k.fresh (whole ∙ here.2));
+        },
+      )
+
+  pub compares : Kept (set views id v) × HaveSeenOne v.parties
+  compares = (
+    refit v (k.fits id v at),
+    λ p q h i. prefix_either p.seen q.seen k.log (began_prefix k.log p (all_began p h))
+        (began_prefix k.log q (all_began q i)),
+  )
 
   pub informs : v.keeps ≡ true → Kept (set views id (informed v)) × AllBegan v.all v.parties
   informs keeps =
@@ -338,11 +358,10 @@ module _ (views : List View) (k : Kept views) (id : ℕ) (v : View)
           made = k.made;
           seat_of = k.seat_of;
           log = log;
-          fresh = λ n lt. none_more n k.log step
+          fresh = λ n no. none_more n k.log step
               (λ is. let r = sitting.party_with number_of n v.parties (told n is) in
-              let le = (f.1.each r.0 r.1).1.numbered in let e : r.0.number ≡ n = r.2 in
-              omega arith)
-              (k.fresh n lt);
+              no (subst (IsNumber k.made) r.2 (f.1.each r.0 r.1).1.numbered))
+              (k.fresh n no);
           fits = each_set (Fits k.book k.made k.seat_of log) views id (tallied step v)
               (λ j u other e. let g = k.fits j u e in (
                 (λ is. absurd (other ((g.0 is).0 ∙ sym here.0))),
@@ -380,6 +399,13 @@ pub with_book : (m b g : View) (n : ℕ) (seen : List BookStep) → m ≡ boarde
     b ≡ book b.all b.made → g ≡ client n seen → m ≡ hosting b.all b.made (party n seen ∷ [])
 with_book m b g n seen is is_book is_client =
     is ∙ (ap (λ u. boarded u g) is_book ∙ ap (λ u. boarded (book b.all b.made) u) is_client)
+
+-- a crowd that stands with the book's seat
+pub with_crowd : (m b g : View) (all : List BookStep) (made : ℕ) (ps : List Party) →
+    m ≡ boarded b g → b ≡ book all made → g ≡ alone ps → m ≡ hosting all made ps
+with_crowd m b g all made ps is is_book is_alone =
+    is ∙ (ap (λ u. boarded u g) is_book ∙ (ap (λ u. boarded (book all made) u) is_alone ∙
+    ap (hosting all made) (append-nil ps)))
 
 pub with_other : (m a b : View) (n k : ℕ) (seen heard : List BookStep) → m ≡ boarded a b →
     a ≡ client n seen → b ≡ client k heard → m ≡ alone (party k heard ∷ party n seen ∷ [])

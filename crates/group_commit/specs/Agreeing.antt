@@ -8,7 +8,7 @@ use Rattle.atomic_table.specs.Seated.{TableId}
 use Rattle.atomic_table.specs.declared.shared.Seat.{Seat}
 use Rattle.images.specs.Gathers.{GatherState}
 use Rattle.group_commit.specs.declared.accord.Sides.{Sides}
-use Rattle.group_commit.specs.Accords.{nothing_gathered}
+use Rattle.images.specs.Gathers.{nothing_gathered}
 
 abbrev pub near_side : GatherState → Sides
 near_side gather =

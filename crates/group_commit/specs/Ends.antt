@@ -1,7 +1,7 @@
 -- What was sent from the one end of a hand-off, and received at the other.
 use Rattle.std.specs.Prelude.{◌≡◌, List, ◌++◌}
 use Rattle.std.specs.Borrow.{MutBor}
-use Rattle.blocks.specs.declared.block.Block.{Block}
+use Rattle.records.specs.declared.block.Block.{Block}
 use Rattle.group_commit.specs.Orders.{SenderState, ReceiverState, WasFull, WasEmpty}
 
 -- it is the same end, these blocks were sent from it, in order, and nothing was noted

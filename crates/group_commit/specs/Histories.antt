@@ -1,15 +1,17 @@
 -- The rule of the line: there is one history, which the book's seat knows whole. Each party has
--- seen a beginning of it, behind which no step is the party's.
-use Rattle.std.specs.Prelude.{◌≡◌, ℕ, ◌+◌, ◌<◌, ◌≤◌, true, false, List, [], ◌∷◌, ◌++◌}
+-- seen a beginning of it, behind which no step is the party's. No step is of a number that no
+-- client has: they are counted from 1 on.
+use Rattle.std.specs.Prelude.{◌≡◌, ℕ, ◌+◌, ◌<◌, ◌≤◌, true, false, List, [], ◌∷◌, ◌++◌, length}
 use mathlib.Core.Option.{some}
 use lib.ListN.{get_elem?}
 use Rattle.atomic_table.specs.Table.{Me}
 use Rattle.atomic_table.specs.Seated.{TableId}
 use Rattle.atomic_table.specs.declared.shared.Seat.{Seat}
-use Rattle.txn.specs.declared.steps.BookStep.{BookStep}
+use Rattle.txn.specs.declared.actions.BookStep.{BookStep}
 use Rattle.group_commit.specs.declared.view.Party.{Party}
 use Rattle.group_commit.specs.declared.view.View.{View}
-use Rattle.group_commit.specs.Lines.{concerns, steps_of}
+use Rattle.group_commit.specs.Lines.{concerns, steps_of, numbers_of, AreDifferent, AreOf}
+use Rattle.group_commit.specs.Lines.{HaveSeenOne}
 use Rattle.group_commit.specs.Parties.{Among, Has, Distinct, Sit, rest, first}
 
 abbrev pub party : ℕ → List BookStep → Party
@@ -67,8 +69,12 @@ pub record Began (whole : List BookStep) (p : Party) : Type 0 where
   pub begun : p.seen ++ later ≡ whole
   pub none : steps_of p.number later ≡ []
 
+-- so many clients have these numbers
+abbrev pub IsNumber : (made : ℕ) → ℕ → Type 0
+IsNumber made n = (0 < n) × (n ≤ made)
+
 pub record Agrees (made : ℕ) (log : List BookStep) (p : Party) : Type 0 where
-  pub numbered : p.number ≤ made
+  pub numbered : IsNumber made p.number
   pub began : Began log p
 
 -- a seat that keeps the history is the book's, and knows it whole
@@ -84,7 +90,7 @@ pub record Kept (views : List View) : Type 0 where
   pub made : ℕ
   pub seat_of : ℕ → ℕ
   pub log : List BookStep
-  pub fresh : (n : ℕ) → made < n → steps_of n log ≡ []
+  pub fresh : (n : ℕ) → (IsNumber made n → ⊥) → steps_of n log ≡ []
   pub fits : (seat : ℕ) (v : View) → get_elem? views seat ≡ some v →
       Fits book made seat_of log seat v
 
@@ -128,9 +134,21 @@ informed v = record {
 abbrev pub Informs : SeatView → SeatView → Type 0
 Informs m n = (n.0 ≡ informed m.0) × AllBegan m.0.all m.0.parties × (n.1 ≡ m.1)
 
--- the parties compare what they have seen with the whole history
+-- What each of the clients has seen begins the history, and behind that no step is the client's. No
+-- two of them have one number; and where they are as many as were made, each step that has a client
+-- is of one of them.
+pub record AreCounted (clients : List Party) (made : ℕ) (steps : List BookStep) : Type 0 where
+  pub began : AllBegan steps clients
+  pub apart : AreDifferent (numbers_of clients)
+  pub only : length clients ≡ made → AreOf (numbers_of clients) steps
+
+-- the parties are counted, and what they have seen is compared with the whole history
+abbrev pub Counts : SeatView → SeatView → Type 0
+Counts m n = (n.0 ≡ m.0) × AreCounted m.0.parties m.0.made m.0.all × (n.1 ≡ m.1)
+
+-- what the parties have seen is of one history
 abbrev pub Compares : SeatView → SeatView → Type 0
-Compares m n = (n.0 ≡ m.0) × AllBegan m.0.all m.0.parties × (n.1 ≡ m.1)
+Compares m n = (n.0 ≡ m.0) × HaveSeenOne m.0.parties × (n.1 ≡ m.1)
 
 -- all parties have then seen what one of them had, and this begins with what each had
 pub record Met (before after : View) : Type 0 where

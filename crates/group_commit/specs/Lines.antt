@@ -1,9 +1,11 @@
 -- The one history of a book, as the book's seat and its clients know it.
-use Rattle.std.specs.Prelude.{◌≡◌, ℕ, ◌+◌, ◌==◌, ◌⊎◌, Bool, false, List, ◌∷◌, [], ◌++◌, Option}
-use Rattle.std.specs.Prelude.{None, Some, filter}
+use Rattle.std.specs.Prelude.{◌≡◌, ◌≢◌, ℕ, ◌+◌, ◌==◌, ◌⊎◌, Bool, false, List, ◌∷◌, [], ◌++◌, Option}
+use Rattle.std.specs.Prelude.{None, Some, filter, map, Contains, AllPairs}
 use mathlib.Core.List.{IsPrefix}
 use Rattle.atomic_table.specs.Seated.{TableId}
-use Rattle.txn.specs.declared.steps.BookStep.{BookStep}
+use Rattle.txn.specs.declared.actions.BookStep.{BookStep}
+use Rattle.group_commit.specs.declared.view.Party.{Party}
+use Rattle.group_commit.specs.Parties.{Among}
 
 -- what the book's seat knows: the whole history, and how many clients were made
 pub record BookState : Type 0 where
@@ -16,6 +18,11 @@ pub record ClientState : Type 0 where
   pub table : TableId
   pub number : ℕ
   pub seen : List BookStep
+
+-- what several clients know that have left: the number of each, and the history up to some step
+pub record CrowdState : Type 0 where
+  pub table : TableId
+  pub clients : List Party
 
 abbrev pub is_client : ℕ → Option ℕ → Bool
 is_client n None = false
@@ -44,6 +51,31 @@ with_client b = record { table = b.table; all = b.all; clients = b.clients + 1 }
 -- the client has seen this
 abbrev pub seeing : ClientState → List BookStep → ClientState
 seeing c steps = record { table = c.table; number = c.number; seen = steps }
+
+-- a crowd of this client alone
+abbrev pub crowd_of : ClientState → CrowdState
+crowd_of c = record {
+  table = c.table;
+  clients = record { number = c.number; seen = c.seen } ∷ [];
+}
+
+-- the numbers of some clients, in order
+abbrev pub numbers_of : List Party → List ℕ
+numbers_of clients = map (λ (p : Party). p.number) clients
+
+-- no two of the numbers are the same
+abbrev pub AreDifferent : List ℕ → Type 0
+AreDifferent numbers = AllPairs (λ m n. m ≢ n) numbers
+
+-- each step that has a client is of one of these
+abbrev pub AreOf : List ℕ → List BookStep → Type 0
+AreOf numbers steps =
+    (x : BookStep) → Contains steps x → (n : ℕ) → x.client ≡ Some n → Contains numbers n
+
+-- of any two of them, what one has seen begins what the other has seen
+abbrev pub HaveSeenOne : List Party → Type 0
+HaveSeenOne clients = (p q : Party) → Among p clients → Among q clients →
+    IsPrefix p.seen q.seen ⊎ IsPrefix q.seen p.seen
 
 -- it is one of the two lists, and both begin it
 pub record IsLonger (one other longer : List BookStep) : Type 0 where

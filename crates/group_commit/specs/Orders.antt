@@ -1,7 +1,7 @@
 -- The order of blocks on their way to the disk, and what was frozen, as both ends have noted it.
 use Rattle.std.specs.Prelude.{◌≡◌, ◌≤◌, List, [], ◌∷◌, ◌++◌, length}
 use Rattle.atomic_table.specs.Seated.{TableId}
-use Rattle.blocks.specs.declared.block.Block.{Block}
+use Rattle.records.specs.declared.block.Block.{Block}
 use Rattle.images.specs.Gathers.{GatherState}
 
 -- what the sender of a hand-off has sent, in order, and what was frozen, as it has noted it, the

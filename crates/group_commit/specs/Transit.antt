@@ -6,7 +6,7 @@ use mathlib.Core.Option.{some}
 use lib.ListN.{get_elem?}
 use Rattle.crossbeam_queue.specs.Passes.{Pass}
 use Rattle.atomic_table.specs.Seated.{TableId}
-use Rattle.blocks.specs.declared.block.Block.{Block}
+use Rattle.records.specs.declared.block.Block.{Block}
 use Rattle.images.specs.Gathers.{GatherState}
 use Rattle.group_commit.specs.declared.handoff.Log.{Log}
 use Rattle.group_commit.specs.Orders.{AreInTransit}

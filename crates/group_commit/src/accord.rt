@@ -1,7 +1,7 @@
 // What is gathered of a book for an image, as two ends know it.
 ghost use Rattle.std.specs.Prelude.{◌≡◌, IfOk, IsOkUnless};
 ghost use Rattle.calls.specs.declared.refusal.Refusal.{Refusal};
-ghost use Rattle.group_commit.specs.Accords.{nothing_gathered};
+ghost use Rattle.images.specs.Gathers.{nothing_gathered};
 ghost use Rattle.group_commit.specs.Agreeing.{Sits, near_side, far_side, both_sides};
 
 use atomic_table::{Join, Play, Seat, Split, Table, TableRule};
@@ -25,7 +25,7 @@ type SideSeat = Seat<(), Sides>;
 pub(crate) struct OneState;
 
 impl TableRule<(), Sides, ()> for OneState {
-    ghost use Rattle.group_commit.specs.Accords.{nothing_gathered};
+    ghost use Rattle.images.specs.Gathers.{nothing_gathered};
     ghost use Rattle.group_commit.specs.Agreeing.{Agreed, near_side, far_side, both_sides};
 
     ghost holds = { λ _ s. Agreed s.views };
@@ -42,7 +42,7 @@ pub trait OneGather {
 }
 
 impl OneGather for Brand {
-    ghost use Rattle.group_commit.specs.Accords.{nothing_gathered};
+    ghost use Rattle.images.specs.Gathers.{nothing_gathered};
 
     ghost gather = { nothing_gathered };
 }

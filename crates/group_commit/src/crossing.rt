@@ -1,7 +1,7 @@
 // What may cross threads: each function is accepted only where its argument may.
 use crate::accord::{Accord, Far, Near};
 use crate::handoff::{Handoff, Receiver, Sender};
-use crate::line::{BookSeat, ClientSeat, Line};
+use crate::line::{BookSeat, ClientSeat, Crowd, Line};
 use crate::mark::{KeeperSeat, Mark, Stopper, Watcher};
 use crate::numbers::{Drawer, DrawerMaker, Numbers};
 use crate::twin::{Twin, TwinFar, TwinNear};
@@ -33,6 +33,11 @@ fn sends_book(
 // What lies under the keeper's lock.
 fn sends_keeper(receiver: Receiver, keeper: KeeperSeat) -> (Receiver, KeeperSeat) {
     (sent(receiver), sent(keeper))
+}
+
+// What clients leave.
+fn sends_crowd(crowd: Crowd) -> Crowd {
+    sent(crowd)
 }
 
 // What a client has.

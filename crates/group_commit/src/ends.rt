@@ -2,8 +2,8 @@
 ghost use Rattle.std.specs.Prelude.{◌≡◌};
 
 use crate::handoff::{Handoff, Receiver, Sender};
-use blocks::{Block, Outbox};
 use checkpoint::Inbox;
+use records::{Block, Outbox};
 use std::sync::Wait;
 
 /// Where a book sends its blocks: a hand-off, with the end from which blocks are sent. Make one for

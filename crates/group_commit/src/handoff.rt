@@ -1,19 +1,19 @@
 // Blocks in transit, in order, and what was frozen, as both ends have noted it.
 ghost use Rattle.std.specs.Prelude.{◌≡◌, List, [], IfOk, IfErr, IfSome, IfNone, OnOk, IsOkUnless};
-ghost use Rattle.blocks.specs.declared.block.Block.{Block};
+ghost use Rattle.records.specs.declared.block.Block.{Block};
 ghost use Rattle.calls.specs.declared.refusal.Refusal.{Refusal};
 ghost use Rattle.group_commit.specs.Orders.{AreInTransit, WasFull, WasEmpty};
 ghost use Rattle.group_commit.specs.Orders.{sending, receiving, noting, noting_too};
 ghost use Rattle.group_commit.specs.Transit.{known, united, IsEnd, IsSender, IsReceiver};
 
 use crate::accord::OneGather;
-use blocks::Block;
 use calls::Refusal;
 use calls::limits::MAX_TRANSIT;
 use catalog::NamedHolding;
 use crossbeam_queue::protocol::{Join, Lesson, Outcome, Protocol, Split};
 use crossbeam_queue::{Pass, RuledArrayQueue};
 use images::Gather;
+use records::Block;
 use std::alloc::Global;
 use std::collections::LinkedList;
 use std::marker::{Model, PhantomData};
@@ -98,7 +98,7 @@ impl Outcome<Block, Log> for Sends {
 
 impl Lesson<Block, Log> for Sends {
     ghost use Rattle.std.specs.Prelude.{List};
-    ghost use Rattle.blocks.specs.declared.block.Block.{Block};
+    ghost use Rattle.records.specs.declared.block.Block.{Block};
     ghost use Rattle.group_commit.specs.Orders.{AreInTransit};
 
     ghost fact = { λ v transit. (received : List Block) × AreInTransit v.sent received transit };
@@ -115,7 +115,7 @@ impl Outcome<Block, Log> for Receives {
 
 impl Lesson<Block, Log> for Receives {
     ghost use Rattle.std.specs.Prelude.{List};
-    ghost use Rattle.blocks.specs.declared.block.Block.{Block};
+    ghost use Rattle.records.specs.declared.block.Block.{Block};
     ghost use Rattle.group_commit.specs.Orders.{AreInTransit};
 
     ghost fact = { λ v transit. (sent : List Block) × AreInTransit sent v.received transit };

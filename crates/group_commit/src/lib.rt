@@ -7,7 +7,8 @@
 //!   brought it to, which tells it to a watcher. A failed flag stays, and is set by the keeper's
 //!   seat or by a stopper alone. A thread may sleep until the mark moves.
 //! - `Line`: the one history of the book. What each client has seen is a beginning of it, with all
-//!   that the history has of the client.
+//!   that the history has of the client. Clients that have left are a crowd; where it has as many as
+//!   were made, each step that has a client is of one of them.
 //! - `Numbers`: each number that was drawn was drawn once. Who makes drawers is told what one drew,
 //!   and so knows whose a number is.
 //! - `Accord`: what is gathered of the book for an image, as two ends know it. Both know the same
@@ -16,7 +17,7 @@
 //!   together lengthen it.
 //!
 //! Threads share the six by `&`. What a thread knows of one lies in a seat, which goes with it: a
-//! sender, a receiver, a keeper's seat, a stopper, a watcher, the book's seat, a client's, a drawer,
+//! sender, a receiver, a keeper's seat, a stopper, a watcher, the book's seat, a client's, a crowd's, a drawer,
 //! the near end and the far end of an accord or of a twin. A seat is made of another one by a
 //! function of its part, and only its own steps change what it knows. So what contracts say of a
 //! seat holds whatever the other threads do: the rule of a part is kept by each step, and is proved
@@ -49,7 +50,7 @@ mod view;
 pub use accord::{Accord, Far, Near, OneGather};
 pub use ends::{Incoming, Outgoing};
 pub use handoff::{Handoff, Receiver, Sender};
-pub use line::{BookSeat, ClientSeat, Line};
+pub use line::{BookSeat, ClientSeat, Crowd, Line};
 pub use mark::{KeeperSeat, Mark, OneMoment, Raised, Stopper, Watcher};
 pub use numbers::{Drawer, DrawerMaker, Numbers};
 pub use twin::{OneTouch, Twin, TwinFar, TwinNear};

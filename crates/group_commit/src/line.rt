@@ -3,11 +3,13 @@ ghost use Rattle.std.specs.Prelude.{◌≡◌, ◌≢◌, [], ◌∷◌, ◌++�
 ghost use mathlib.Core.List.{IsPrefix};
 ghost use Rattle.calls.specs.declared.refusal.Refusal.{Refusal};
 ghost use Rattle.group_commit.specs.Lines.{IsLonger, mine_of, stepped, with_client, seeing};
-ghost use Rattle.group_commit.specs.Histories.{Sits, boarded, nobody};
+ghost use Rattle.group_commit.specs.Lines.{crowd_of, HaveSeenOne};
+ghost use Rattle.group_commit.specs.Histories.{Sits, book, alone, boarded, nobody, AreCounted};
 ghost use Rattle.group_commit.specs.Histories.{without_first, first_alone};
 
 use crate::view::{
-    Admit, Alight, Board, Compare, Inform, Leave, LineSeat, Meet, OneHistory, OneStep, Tally, View,
+    Admit, Alight, Board, Compare, Count, Inform, Leave, LineSeat, Meet, OneHistory, OneStep,
+    Tally, View,
 };
 use atomic_table::Table;
 use calls::Refusal;
@@ -92,6 +94,32 @@ impl Model for ClientSeat {
 
     ghost invariant = { λ c. c.seat.me ≡
         (client (party_of c.seat.me.0.parties).number (party_of c.seat.me.0.parties).seen, []) };
+}
+
+/// The seats of several clients that have left. It has no bytes. Contracts see the number of each,
+/// in order, and the history up to some step, which is all that the history has of it.
+pub struct Crowd {
+    seat: LineSeat,
+}
+
+impl Drop for Crowd {
+    fn drop(self) {
+        let Self { seat } = self;
+        drop(seat);
+    }
+}
+
+impl Model for Crowd {
+    ghost use Rattle.std.specs.Prelude.{◌≡◌, []};
+    ghost use Rattle.group_commit.specs.Lines.{CrowdState};
+
+    ghost Value = { CrowdState };
+
+    ghost use Rattle.group_commit.specs.Histories.{alone};
+
+    ghost view = { λ c. record { table = c.seat.table_id; clients = c.seat.me.0.parties } };
+
+    ghost invariant = { λ c. c.seat.me ≡ (alone c.seat.me.0.parties, []) };
 }
 
 impl Line {
@@ -200,18 +228,71 @@ impl Line {
         self.alight(&mut book.seat, &mut client.seat);
     }
 
-    /// What a client has seen begins the history, and behind that no step is the client's. It
-    /// changes nothing.
-    pub fn compare(&self, book: &mut BookSeat, client: &mut ClientSeat)
-        requires book { book.old.table ≡ self.now }
-        requires client { client.old.table ≡ self.now }
+    /// A crowd of nobody.
+    pub fn nobody(&self, book: &mut BookSeat) -> Crowd
+        requires { book.old.table ≡ self.now }
         ensures book { book.new ≡ book.old }
-        ensures client { client.new ≡ client.old }
-        ensures seen { IsPrefix client.old.seen book.old.all }
-        ensures mine { mine_of (seeing client.old book.old.all) ≡ mine_of client.old }
+        ensures crowd { result ≡ record { table = self.now; clients = [] } }
     {
-        self.board(&mut book.seat, &mut client.seat);
-        self.table.shared.load::<Compare>(&mut book.seat, 0);
-        self.alight(&mut book.seat, &mut client.seat);
+        let seat = self.table.shared.split_seat::<Alight>(&mut book.seat);
+        Crowd { seat }
+    }
+
+    /// The clients of both crowds, in order. Of any two of them, what one has seen begins what the
+    /// other has seen. It waits for nobody.
+    pub fn gather(&self, one: Crowd, other: Crowd) -> Crowd
+        requires one { one.table ≡ self.now }
+        requires other { other.table ≡ self.now }
+        ensures clients { result ≡
+            record { table = self.now; clients = one.clients ++ other.clients } }
+        ensures one_history { HaveSeenOne result.clients }
+    {
+        let mut guest = one.into_seat();
+        let mut seat = other.into_seat();
+        self.board(&mut seat, &mut guest);
+        self.table.shared.load::<Compare>(&mut seat, 0);
+        Crowd { seat }
+    }
+
+    /// The end of a history: no step and no client comes any more. What each client of the crowd
+    /// has seen begins it, and behind that no step is the client's. No two of them have one number;
+    /// and where as many clients were made as are in the crowd, no step is of another client.
+    pub fn end(&self, book: BookSeat, crowd: Crowd)
+        requires book { book.table ≡ self.now }
+        requires crowd { crowd.table ≡ self.now }
+        ensures { AreCounted crowd.clients book.clients book.all }
+    {
+        let mut guest = crowd.into_seat();
+        let mut seat = book.into_seat();
+        self.board(&mut seat, &mut guest);
+        self.table.shared.load::<Count>(&mut seat, 0);
+    }
+}
+
+impl BookSeat {
+    fn into_seat(self) -> LineSeat
+        ensures { Sits self.table (book self.all self.clients) result }
+    {
+        let Self { seat } = self;
+        seat
+    }
+}
+
+impl ClientSeat {
+    /// A crowd of this client alone, which has left.
+    pub fn into_crowd(self) -> Crowd
+        ensures { result ≡ crowd_of self }
+    {
+        let Self { seat } = self;
+        Crowd { seat }
+    }
+}
+
+impl Crowd {
+    fn into_seat(self) -> LineSeat
+        ensures { Sits self.table (alone self.clients) result }
+    {
+        let Self { seat } = self;
+        seat
     }
 }

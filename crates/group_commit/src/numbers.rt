@@ -206,6 +206,15 @@ impl Model for Drawer {
     ghost invariant = { λ d. IsDrawer d.seat.me d.left };
 }
 
+impl DrawerMaker {
+    /// How many drawers were made.
+    pub fn made(&self) -> u64
+        ensures { result ≡ self.now.made }
+    {
+        self.made
+    }
+}
+
 impl Numbers {
     /// Numbers from this one on, and the seat that makes drawers.
     ///

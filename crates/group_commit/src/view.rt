@@ -37,7 +37,7 @@ impl TableRule<(), View, ()> for OneHistory {
 /// Which step a tally adds to the history. Each call picks it, by passing `Brand`, so that no step
 /// is stored: it exists in the proofs alone.
 pub trait OneStep {
-    ghost use Rattle.txn.specs.declared.steps.BookStep.{BookStep};
+    ghost use Rattle.txn.specs.declared.actions.BookStep.{BookStep};
 
     ghost step: { BookStep };
 }
@@ -77,7 +77,17 @@ impl Play<(), View> for Inform {
     ghost then = { λ _ me _ after. Informs me after };
 }
 
-// What the parties with the book's seat have seen is compared with the whole history.
+// What the parties with the book's seat have seen is compared with the whole history, and they are
+// counted.
+pub(crate) struct Count;
+
+impl Play<(), View> for Count {
+    ghost use Rattle.group_commit.specs.Histories.{Counts};
+
+    ghost then = { λ _ me _ after. Counts me after };
+}
+
+// What the parties with a seat have seen is compared.
 pub(crate) struct Compare;
 
 impl Play<(), View> for Compare {

@@ -36,7 +36,7 @@ length-caught_up ps (e ∷ es) = length-caught_up (with_effect_at ps e.collectio
     length_at ps e.collection e
 
 stamp_one : (p : CopyState) (e : Effect) → (with_effect p e).stamp ≡ p.stamp
-stamp_one p e = by (nat_lt p.stamp e.position)
+stamp_one p e = by (nat_lt p.stamp e.lsn)
   where
     by : (b : Bool) → (cond b (record p {
       collection = record p.collection { content = after p.collection.content e.call e.reply };
@@ -76,16 +76,16 @@ module _ (e : Effect) (n : ℕ) (low : n ≤ 2 ^ 61 + 65536) where
       let rest : gathered qs ≡ take (length qs) xs = cc in can_run qs xs at rest a w.1
 
 run_one : (q : CopyState) (x : Collection) (e : Effect) → q.collection ≡ x →
-    q.stamp < e.position → (with_effect q e).collection ≡
+    q.stamp < e.lsn → (with_effect q e).collection ≡
     record { name = x.name; content = after x.content e.call e.reply }
 run_one q x e same past =
     ap {A = Bool} (λ b. (cond b (record q {
       collection = record q.collection { content = after q.collection.content e.call e.reply };
-    }) q).collection) (lt-ltb q.stamp e.position past) ∙
+    }) q).collection) (lt-ltb q.stamp e.lsn past) ∙
     ap {A = Collection} (λ v. record v { content = after v.content e.call e.reply }) same
 
 run_at : (qs : List CopyState) (xs : List Collection) (at : ℕ) (e : Effect) →
-    gathered qs ≡ take (length qs) xs → AllByRecursion (λ p. p.stamp < e.position) qs →
+    gathered qs ≡ take (length qs) xs → AllByRecursion (λ p. p.stamp < e.lsn) qs →
     AnswersAt xs at e.call e.reply →
     gathered (with_effect_at qs at e) ≡ take (length qs) (after_at xs at e.call e.reply)
 run_at [] xs at e same past a = refl
@@ -108,7 +108,7 @@ length-after_at (x ∷ xs) (suc at) c r = ap suc (length-after_at xs at c r)
 -- A call is run on the collections.
 pub follows_run : (g : GatherState) (later : List Effect) (xs : List Collection) (e : Effect)
     (n : ℕ) → n ≤ 2 ^ 61 + 65536 → IsWithin xs n → Follows g later xs →
-    AllByRecursion (λ p. p.stamp < e.position) g.parts →
+    AllByRecursion (λ p. p.stamp < e.lsn) g.parts →
     AnswersAt xs e.collection e.call e.reply →
     Follows g (later ++ e ∷ []) (after_at xs e.collection e.call e.reply)
 follows_run g later xs e n low within follows past answered =
@@ -128,7 +128,7 @@ follows_run g later xs e n low within follows past answered =
       leads = ap (λ l. gathered (caught_up g.parts l)) longer ∙
           ap gathered (caught_up-append g.parts es (e ∷ [])) ∙
           run_at qs xs e.collection e now
-          (stamps_caught_up (λ s. s < e.position) g.parts es past) answered ∙
+          (stamps_caught_up (λ s. s < e.lsn) g.parts es past) answered ∙
           ap (λ k. take k (after_at xs e.collection e.call e.reply)) same_length;
     }
 
@@ -144,7 +144,7 @@ follows_made g later xs ys follows = record {
 }
 
 past_all : (ps : List CopyState) (p : CopyState) (es : List Effect) →
-    AllByRecursion (λ e. e.position ≤ p.stamp) es →
+    AllByRecursion (λ e. e.lsn ≤ p.stamp) es →
     caught_up (ps ++ p ∷ []) es ≡ caught_up ps es ++ p ∷ []
 past_all ps p [] low = refl
 past_all ps p (e ∷ es) low =
@@ -165,7 +165,7 @@ within_one (y ∷ xs) (suc n) x there = let less = within_one xs n x there in om
 
 pub follows_copied : (g : GatherState) (later : List Effect) (xs : List Collection) (x : Collection)
     (stamp : ℕ) → Follows g later xs → slice_get xs (length g.parts) ≡ Some x →
-    AllByRecursion (λ e. e.position ≤ stamp) (g.effects ++ later) →
+    AllByRecursion (λ e. e.lsn ≤ stamp) (g.effects ++ later) →
     Follows (record g { parts = g.parts ++ record { collection = x; stamp = stamp } ∷ [] }) later xs
 follows_copied g later xs x stamp follows there low =
     let es = g.effects ++ later in
@@ -226,7 +226,7 @@ follows_repeated g h later xs repeats follows =
 pub follows_gathered : (g : GatherState) (later : List Effect) (xs : List Collection) (mark : ℕ)
     (next : Option Collection) (stamp : ℕ) → Follows g later xs →
     IfSome next (λ x. slice_get xs (length g.parts) ≡ Some x) →
-    AllByRecursion (λ e. e.position ≤ stamp) (g.effects ++ later) →
+    AllByRecursion (λ e. e.lsn ≤ stamp) (g.effects ++ later) →
     Follows (with_gathered g mark next stamp later) [] xs
 follows_gathered g later xs mark (Some x) stamp follows there low =
     let p : CopyState = record { collection = x; stamp = stamp } in
@@ -247,62 +247,62 @@ follows_all g xs follows all =
 
 -- ---- where the copies and the calls stand
 
-pub came_run : (g : GatherState) (later : List Effect) (e : Effect) (position : ℕ) →
-    CameBy g later position → position ≤ e.position → CameBy g (later ++ e ∷ []) e.position
-came_run g later e position came low = record {
-  stamps = weaker (λ p. p.stamp ≤ position) (λ p. p.stamp ≤ e.position)
+pub came_run : (g : GatherState) (later : List Effect) (e : Effect) (lsn : ℕ) →
+    CameBy g later lsn → lsn ≤ e.lsn → CameBy g (later ++ e ∷ []) e.lsn
+came_run g later e lsn came low = record {
+  stamps = weaker (λ p. p.stamp ≤ lsn) (λ p. p.stamp ≤ e.lsn)
       (λ p s. omega (arith, s, low)) g.parts came.stamps;
-  positions = subst (AllByRecursion (λ x. x.position ≤ e.position))
+  lsns = subst (AllByRecursion (λ x. x.lsn ≤ e.lsn))
       (append_assoc g.effects later (e ∷ []))
-      (each_append (λ x. x.position ≤ e.position) (g.effects ++ later) (e ∷ [])
-      (weaker (λ x. x.position ≤ position) (λ x. x.position ≤ e.position)
-      (λ x s. omega (arith, s, low)) (g.effects ++ later) came.positions)
+      (each_append (λ x. x.lsn ≤ e.lsn) (g.effects ++ later) (e ∷ [])
+      (weaker (λ x. x.lsn ≤ lsn) (λ x. x.lsn ≤ e.lsn)
+      (λ x s. omega (arith, s, low)) (g.effects ++ later) came.lsns)
       (omega arith, tt));
 }
 
-pub came_copied : (g : GatherState) (later : List Effect) (x : Collection) (position : ℕ) →
-    CameBy g later position →
-    CameBy (record g { parts = g.parts ++ record { collection = x; stamp = position } ∷ [] }) later
-    position
-came_copied g later x position came = record {
-  stamps = each_append (λ (p : CopyState). p.stamp ≤ position) g.parts
-      (record { collection = x; stamp = position } ∷ []) came.stamps (omega arith, tt);
-  positions = came.positions;
+pub came_copied : (g : GatherState) (later : List Effect) (x : Collection) (lsn : ℕ) →
+    CameBy g later lsn →
+    CameBy (record g { parts = g.parts ++ record { collection = x; stamp = lsn } ∷ [] }) later
+    lsn
+came_copied g later x lsn came = record {
+  stamps = each_append (λ (p : CopyState). p.stamp ≤ lsn) g.parts
+      (record { collection = x; stamp = lsn } ∷ []) came.stamps (omega arith, tt);
+  lsns = came.lsns;
 }
 
-pub came_taken : (g : GatherState) (later : List Effect) (position : ℕ) → CameBy g later position →
-    CameBy (record g { effects = g.effects ++ later }) [] position
-came_taken g later position came = record {
+pub came_taken : (g : GatherState) (later : List Effect) (lsn : ℕ) → CameBy g later lsn →
+    CameBy (record g { effects = g.effects ++ later }) [] lsn
+came_taken g later lsn came = record {
   stamps = came.stamps;
-  positions = subst (AllByRecursion (λ e. e.position ≤ position))
-      (sym (append-nil (g.effects ++ later))) came.positions;
+  lsns = subst (AllByRecursion (λ e. e.lsn ≤ lsn))
+      (sym (append-nil (g.effects ++ later))) came.lsns;
 }
 
 pub came_gathered : (g : GatherState) (later : List Effect) (mark : ℕ) (next : Option Collection)
-    (position : ℕ) → CameBy g later position →
-    CameBy (with_gathered g mark next position later) [] position
-came_gathered g later mark next position came = record {
-  stamps = each_append (λ (p : CopyState). p.stamp ≤ position) g.parts
-      (map (λ x. record { collection = x; stamp = position }) (option_to_list next)) came.stamps
+    (lsn : ℕ) → CameBy g later lsn →
+    CameBy (with_gathered g mark next lsn later) [] lsn
+came_gathered g later mark next lsn came = record {
+  stamps = each_append (λ (p : CopyState). p.stamp ≤ lsn) g.parts
+      (map (λ x. record { collection = x; stamp = lsn }) (option_to_list next)) came.stamps
       (stamped next);
-  positions = (came_taken g later position came).positions;
+  lsns = (came_taken g later lsn came).lsns;
 }
   where
-    stamped : (next : Option Collection) → AllByRecursion (λ (p : CopyState). p.stamp ≤ position)
-        (map (λ x. record { collection = x; stamp = position }) (option_to_list next))
+    stamped : (next : Option Collection) → AllByRecursion (λ (p : CopyState). p.stamp ≤ lsn)
+        (map (λ x. record { collection = x; stamp = lsn }) (option_to_list next))
     stamped None = tt
     stamped (Some x) = (omega arith, tt)
 
-pub came_repeated : (g h : GatherState) (later : List Effect) (position : ℕ) → Repeats g h →
-    CameBy g later position → CameBy h later position
-came_repeated g h later position repeats came =
+pub came_repeated : (g h : GatherState) (later : List Effect) (lsn : ℕ) → Repeats g h →
+    CameBy g later lsn → CameBy h later lsn
+came_repeated g h later lsn repeats came =
     let done = repeats.repeated.done in
     let all : g.effects ++ later ≡ done ++ (h.effects ++ later) =
     ap (λ l. l ++ later) repeats.repeated.are ∙ append_assoc done h.effects later in
     record {
-      stamps = subst (AllByRecursion (λ (p : CopyState). p.stamp ≤ position))
+      stamps = subst (AllByRecursion (λ (p : CopyState). p.stamp ≤ lsn))
           (sym repeats.repeated.is)
-          (stamps_caught_up (λ s. s ≤ position) g.parts done came.stamps);
-      positions = each_back (λ (e : Effect). e.position ≤ position) done (h.effects ++ later)
-          (subst (AllByRecursion (λ e. e.position ≤ position)) all came.positions);
+          (stamps_caught_up (λ s. s ≤ lsn) g.parts done came.stamps);
+      lsns = each_back (λ (e : Effect). e.lsn ≤ lsn) done (h.effects ++ later)
+          (subst (AllByRecursion (λ e. e.lsn ≤ lsn)) all came.lsns);
     }

@@ -12,7 +12,7 @@ use Rattle.boosted.specs.Laws.{BoostedLaws}
 use Rattle.boosted.proofs.Each.{each_append, weaker}
 use Rattle.catalog.specs.Making.{Making}
 use Rattle.records.specs.Told.{Tells}
-use Rattle.machine.specs.Machine.{Does}
+use Rattle.steps.specs.Machine.{Does}
 use Rattle.images.specs.declared.effect.Effect.{Effect}
 use Rattle.images.specs.Gathers.{CopyState, GatherState, FrozenState, gathered, caught_up}
 use Rattle.images.specs.Gathers.{CanCatchUp, with_gathered}
@@ -55,16 +55,16 @@ module _ (n : GatheringState) (es : List Effect) where
 
 -- ---- calls
 
-came_more : (g : GatherState) (later es : List Effect) (position p : ℕ) → position ≤ p →
-    CameBy g later position → AllByRecursion (λ e. e.position ≡ p) es → CameBy g (later ++ es) p
-came_more g later es position p low came there = record {
-  stamps = weaker (λ (c : CopyState). c.stamp ≤ position) (λ (c : CopyState). c.stamp ≤ p)
+came_more : (g : GatherState) (later es : List Effect) (lsn p : ℕ) → lsn ≤ p →
+    CameBy g later lsn → AllByRecursion (λ e. e.lsn ≡ p) es → CameBy g (later ++ es) p
+came_more g later es lsn p low came there = record {
+  stamps = weaker (λ (c : CopyState). c.stamp ≤ lsn) (λ (c : CopyState). c.stamp ≤ p)
       (λ c s. omega (arith, s, low)) g.parts came.stamps;
-  positions = subst (AllByRecursion (λ x. x.position ≤ p)) (append_assoc g.effects later es)
-      (each_append (λ (x : Effect). x.position ≤ p) (g.effects ++ later) es
-      (weaker (λ (x : Effect). x.position ≤ position) (λ (x : Effect). x.position ≤ p)
-      (λ x s. omega (arith, s, low)) (g.effects ++ later) came.positions)
-      (weaker (λ (x : Effect). x.position ≡ p) (λ (x : Effect). x.position ≤ p)
+  lsns = subst (AllByRecursion (λ x. x.lsn ≤ p)) (append_assoc g.effects later es)
+      (each_append (λ (x : Effect). x.lsn ≤ p) (g.effects ++ later) es
+      (weaker (λ (x : Effect). x.lsn ≤ lsn) (λ (x : Effect). x.lsn ≤ p)
+      (λ x s. omega (arith, s, low)) (g.effects ++ later) came.lsns)
+      (weaker (λ (x : Effect). x.lsn ≡ p) (λ (x : Effect). x.lsn ≤ p)
       (λ x s. omega (arith, s)) es there));
 }
 
@@ -73,7 +73,7 @@ module _ {S : Type 0} {meaning : Meaning S ℕ} {making : Making S}
     (told : Tells meaning making collections) where
   follows_all : (es : List Effect) (g : GatherState) (later : List Effect) (w p : ℕ) (s t : S) →
       meaning.within s w → w + length es ≤ 2 ^ 61 + 65536 →
-      Leads (Does meaning) (map event_in es) s t → AllByRecursion (λ e. e.position ≡ p) es →
+      Leads (Does meaning) (map event_in es) s t → AllByRecursion (λ e. e.lsn ≡ p) es →
       AllByRecursion (λ c. c.stamp < p) g.parts → Follows g later (collections s) →
       Follows g (later ++ es) (collections t)
   follows_all [] g later w p s t within low leads there past follows =
@@ -82,7 +82,7 @@ module _ {S : Type 0} {meaning : Meaning S ℕ} {making : Making S}
   follows_all (e ∷ es) g later w p s t within low leads there past follows =
       let m = leads.0 in
       let did = leads.1 in
-      let before : AllByRecursion (λ (c : CopyState). c.stamp < e.position) g.parts =
+      let before : AllByRecursion (λ (c : CopyState). c.stamp < e.lsn) g.parts =
       subst (λ q. AllByRecursion (λ (c : CopyState). c.stamp < q) g.parts) (sym there.0) past in
       let one = follows_run g later (collections s) e w (omega (arith, low))
       ((told.within s w).0 within) follows before
@@ -96,7 +96,7 @@ module _ {S : Type 0} {meaning : Meaning S ℕ} {making : Making S}
       past (subst (Follows g (later ++ e ∷ [])) (sym now) one))
 
   pub goes_past_runs : GoesPastRuns collections meaning
-  goes_past_runs n es position wear s t within low run = record {
+  goes_past_runs n es lsn wear s t within low run = record {
     begun = noted_begun n es;
     going = λ still. (noted_going n es still).0;
     along = λ still g along.
@@ -104,57 +104,57 @@ module _ {S : Type 0} {meaning : Meaning S ℕ} {making : Making S}
         record {
           mark = along.mark ∙ sym (noted_begun n es);
           follows = subst (λ l. Follows g l (collections t)) (sym effects)
-              (follows_all es g n.effects wear (position + 1) s t within low run.leads run.there
-              (weaker (λ (c : CopyState). c.stamp ≤ position)
-              (λ (c : CopyState). c.stamp < position + 1) (λ c s. omega (arith, s)) g.parts
+              (follows_all es g n.effects wear (lsn + 1) s t within low run.leads run.there
+              (weaker (λ (c : CopyState). c.stamp ≤ lsn)
+              (λ (c : CopyState). c.stamp < lsn + 1) (λ c s. omega (arith, s)) g.parts
               along.came.stamps) along.follows);
-          came = subst (λ l. CameBy g l (position + 1)) (sym effects)
-              (came_more g n.effects es position (position + 1) (omega arith) along.came run.there);
+          came = subst (λ l. CameBy g l (lsn + 1)) (sym effects)
+              (came_more g n.effects es lsn (lsn + 1) (omega arith) along.came run.there);
         };
   }
 
   pub goes_past_makings : GoesPastMakings collections making
-  goes_past_makings n position s t name kind made = record {
+  goes_past_makings n lsn s t name kind made = record {
     begun = refl;
     going = λ still. still;
     along = λ still g along. record {
       mark = along.mark;
       follows = subst (Follows g n.effects) (sym (told.makes s t name kind made).is)
           (follows_made g n.effects (collections s) _ along.follows);
-      came = later position (position + 1) (omega arith) g n.effects along.came;
+      came = later lsn (lsn + 1) (omega arith) g n.effects along.came;
     };
   }
     where
-      later : (position p : ℕ) → position ≤ p → (g : GatherState) (l : List Effect) →
-          CameBy g l position → CameBy g l p
-      later position p low g l came = subst (λ v. CameBy g v p) (append-nil l)
-          (came_more g l [] position p low came tt)
+      later : (lsn p : ℕ) → lsn ≤ p → (g : GatherState) (l : List Effect) →
+          CameBy g l lsn → CameBy g l p
+      later lsn p low g l came = subst (λ v. CameBy g v p) (append-nil l)
+          (came_more g l [] lsn p low came tt)
 
 pub goes_past_others : {S : Type 0} (collections : S → List Collection) → GoesPastOthers collections
-goes_past_others collections n position next s low = record {
+goes_past_others collections n lsn next s low = record {
   begun = refl;
   going = λ still. still;
   along = λ still g along. record {
     mark = along.mark;
     follows = along.follows;
     came = subst (λ v. CameBy g v next) (append-nil n.effects)
-        (came_more g n.effects [] position next low along.came tt);
+        (came_more g n.effects [] lsn next low along.came tt);
   };
 }
 
 -- ---- copies, and what is handed over
 
-module _ {S : Type 0} (collections : S → List Collection) (now : S) (position : ℕ) where
+module _ {S : Type 0} (collections : S → List Collection) (now : S) (lsn : ℕ) where
   -- The next collection is copied, if one is left, and what was noted is handed over.
   pub gathered_along : (n : GatheringState) (g : GatherState) →
-      GoesAlong collections n now position g → (next : Option Collection) →
+      GoesAlong collections n now lsn g → (next : Option Collection) →
       slice_get (collections now) (length g.parts) ≡ next →
-      GoesAlong collections (record n { effects = [] }) now position
-      (with_gathered g n.begun next position n.effects)
+      GoesAlong collections (record n { effects = [] }) now lsn
+      (with_gathered g n.begun next lsn n.effects)
   gathered_along n g along None there =
       let all = append-nil g.parts in
       let taken = follows_taken g n.effects (collections now) along.follows in
-      let came = came_taken g n.effects position along.came in
+      let came = came_taken g n.effects lsn along.came in
       record {
         mark = refl;
         follows = record {
@@ -164,26 +164,26 @@ module _ {S : Type 0} (collections : S → List Collection) (now : S) (position 
               taken.leads ∙ sym (ap (λ ps. take (length ps) (collections now)) all);
         };
         came = record {
-          stamps = subst (AllByRecursion (λ (p : CopyState). p.stamp ≤ position)) (sym all)
+          stamps = subst (AllByRecursion (λ (p : CopyState). p.stamp ≤ lsn)) (sym all)
               came.stamps;
-          positions = came.positions;
+          lsns = came.lsns;
         };
       }
   gathered_along n g along (Some x) there =
       let h : GatherState = record g { effects = g.effects ++ n.effects } in
       let taken = follows_taken g n.effects (collections now) along.follows in
-      let came = came_taken g n.effects position along.came in
-      let copied = follows_copied h [] (collections now) x position taken there came.positions in
-      let also = came_copied h [] x position came in
+      let came = came_taken g n.effects lsn along.came in
+      let copied = follows_copied h [] (collections now) x lsn taken there came.lsns in
+      let also = came_copied h [] x lsn came in
       record {
         mark = refl;
         follows = record { few = copied.few; can = copied.can; leads = copied.leads };
-        came = record { stamps = also.stamps; positions = also.positions };
+        came = record { stamps = also.stamps; lsns = also.lsns };
       }
 
   -- Once all are copied and all is handed over, the copies come to what the collections hold.
   pub whole_along : (n : GatheringState) (g : GatherState) →
-      GoesAlong collections n now position g → length (collections now) ≤ length g.parts →
+      GoesAlong collections n now lsn g → length (collections now) ≤ length g.parts →
       gathered (caught_up g.parts (g.effects ++ n.effects)) ≡ collections now
   whole_along n g along all = following.follows_all (record g { effects = g.effects ++ n.effects })
       (collections now) (follows_taken g n.effects (collections now) along.follows) all
@@ -191,7 +191,7 @@ module _ {S : Type 0} (collections : S → List Collection) (now : S) (position 
 -- ---- the image
 
 pub holds_image : {S : Type 0} (collections : S → List Collection) → HoldsImage collections
-holds_image collections next place position s g h image holds repeats packs =
+holds_image collections next place lsn s g h image holds repeats packs =
     let f = holds.frozen in
     let same : packs.frozen ≡ f =
     let is : Some packs.frozen ≡ Some f =
@@ -199,17 +199,18 @@ holds_image collections next place position s g h image holds repeats packs =
     let copies : gathered (caught_up h.parts h.effects) ≡ collections s.now =
     ap gathered (repeated_same g.parts h.parts g.effects h.effects repeats.repeated) ∙
     holds.copies in
-    let marks = ap (λ (v : FrozenState). v.marks) same ∙ holds.marks in
+    let image_head = ap (λ (v : FrozenState). v.image_head) same ∙ holds.image_head in
     let live = ap (λ (v : FrozenState). v.live) same in
-    let told : (rs : List _) → TellsGathered packs.frozen.marks.format packs.frozen.marks.next
-    packs.frozen.marks.wear
+    let told : (rs : List _) → TellsGathered packs.frozen.image_head.format
+    packs.frozen.image_head.next
+    packs.frozen.image_head.wear
     (gathered (caught_up h.parts h.effects)) packs.frozen.live rs →
     TellsState collections next s rs =
     λ rs tells. tells_state collections next s f.live holds.tells rs
     (subst (λ l. TellsGathered s.format next s.wear (collections s.now) l rs) live
     (subst (λ xs. TellsGathered s.format next s.wear xs packs.frozen.live rs) copies
     (subst (λ (v : _). TellsGathered v.format v.next v.wear (gathered (caught_up h.parts h.effects))
-    packs.frozen.live rs) marks tells))) in (
+    packs.frozen.live rs) image_head tells))) in (
       record {
         groups = packs.packed.groups;
         tells = told _ packs.packed.tells;
@@ -217,6 +218,6 @@ holds_image collections next place position s g h image holds repeats packs =
         packed = packs.packed.packed;
         whole = packs.packed.whole;
       },
-      packs.end ∙ ap (λ v. v.end) marks,
-      packs.place ∙ ap (λ v. v.place) marks,
+      packs.end ∙ ap (λ v. v.end) image_head,
+      packs.place ∙ ap (λ v. v.place) image_head,
     )

@@ -22,7 +22,7 @@ use Rattle.calls.specs.Contents.{kind_of_content, IsItemOf}
 use Rattle.calls.specs.Names.{IsName}
 use Rattle.calls.specs.Rules.{Deferrable, inverse_of}
 use Rattle.calls.specs.Reads.{reads}
-use Rattle.calls.specs.Transactions.{Entry, Asked, PutOff}
+use Rattle.calls.specs.Transactions.{Entry, Asked, Deferred}
 use Rattle.catalog.specs.declared.shown.Shown.{Shown}
 use Rattle.catalog.specs.Places.{At}
 use Rattle.catalog.specs.Holdings.{Shows}
@@ -30,24 +30,24 @@ use Rattle.undo_log.specs.declared.logged.Owned.{Owned}
 use Rattle.undo_log.specs.Entries.{owned_entry}
 use Rattle.undo_log.specs.Logs.{Statuses, Lives, IsNextLive}
 use Rattle.boosted.proofs.Each.{each_append}
-use Rattle.record_format.specs.declared.record.Record.{Record}
-use Rattle.record_format.specs.declared.record.CallRecord.{CallRecord}
-use Rattle.record_format.specs.declared.record.LaterRecord.{LaterRecord}
-use Rattle.record_format.specs.Records.{call_record, FitsCall, FitsReply, FitsItem, Fits}
-use Rattle.record_format.specs.Records.{IsNumber, IsRecord, AreRecords, named_by}
+use Rattle.records.specs.declared.record.Record.{Record}
+use Rattle.records.specs.declared.record.CallRecord.{CallRecord}
+use Rattle.records.specs.declared.record.LaterRecord.{LaterRecord}
+use Rattle.records.specs.Records.{call_record, FitsCall, FitsReply, FitsItem, Fits}
+use Rattle.records.specs.Records.{IsNumber, IsRecord, AreRecords, named_by}
 use Rattle.records.proofs.Items.{AreItems, content_items}
 use Rattle.records.specs.Images.{TellsOf, TellOf, Rise, IsLiveRecord}
-use Rattle.record_format.proofs.CallRecords.{inverse_fits, later_is_record}
-use Rattle.record_format.specs.Short.{IsShortItem, HoldsShort, AreShort}
-use Rattle.machine.specs.Machine.{State}
-use Rattle.blocks.specs.Packings.{joined, Writes, AreWhole}
+use Rattle.records.proofs.CallRecords.{inverse_fits, later_is_record}
+use Rattle.records.specs.Short.{IsShortItem, HoldsShort, AreShort}
+use Rattle.steps.specs.Machine.{State}
+use Rattle.records.specs.Packings.{joined, Writes, AreWhole}
 use Rattle.images.specs.Images.{AreOf, TellsLive, TellsState, IsPacked}
 use Rattle.images.specs.Images.{TellsTransactions}
 use Rattle.images.specs.Gathers.{CopyState, gathered}
 use Rattle.images.specs.Images.{CanStand, TellsGathered}
 use Rattle.images.specs.LiveRecords.{live_record, live_records, unless_falling, unless_read}
-use Rattle.blocks.specs.Drafts.{ArePacked}
-use Rattle.machine.specs.Machines.{IsAskedEntry}
+use Rattle.records.specs.Drafts.{ArePacked}
+use Rattle.steps.specs.Machines.{IsAskedEntry}
 
 -- ---- records behind records
 
@@ -495,8 +495,8 @@ live_call_same n at c d r q o p call reply back =
 pub live_later_good : (n at : ℕ) (c : Call) (last : Option Kind) → IsNumber n → at < 256 →
     Deferrable c → IsRecord last (Record.LiveLater
     (record { number = n; collection = at; call = c }))
-live_later_good n at c last number few put_off =
-    let later = later_is_record last n at c number few put_off in
+live_later_good n at c last number few deferred =
+    let later = later_is_record last n at c number few deferred in
     record { fits = later.fits; suits = tt; sound = later.sound }
 
 -- ---- what an image tells of live transactions
@@ -519,7 +519,7 @@ live_are live [] = tt
 live_are live ((n, Asked e) ∷ es) =
     call_are (reads e.call e.reply) (call_record n e.at e.call e.reply (inverse_of e.call e.reply))
     (flat_map (live_record live) es) (live_are live es)
-live_are live ((n, PutOff at c) ∷ es) =
+live_are live ((n, Deferred at c) ∷ es) =
     later_are (maps.get live n) (record { number = n; collection = at; call = c })
     (flat_map (live_record live) es) (live_are live es)
 
@@ -564,11 +564,11 @@ module _ (format : Format) (next wear : ℕ) (xs : List Collection) (live : List
   pub whole_writes : (a b c d e : List Record) → CanStand next wear live →
       b ≡ a ++ Record.Marks format next wear ∷ [] → Writes b c (TellOf xs) → d ≡ c ++ live →
       e ≡ d ++ Record.ImageEnd ∷ [] → Writes a e (TellsGathered format next wear xs live)
-  whole_writes a b c d e can marks told lived end = record {
+  whole_writes a b c d e can image_head told lived end = record {
     written = Record.Marks format next wear ∷ (told.written ++ (live ++ tail));
     are = end ∙ ap (λ l. l ++ tail) lived ∙ append_assoc c live tail ∙
         ap (λ l. l ++ (live ++ tail)) told.are ∙ append_assoc b told.written (live ++ tail) ∙
-        ap (λ l. l ++ (told.written ++ (live ++ tail))) marks ∙
+        ap (λ l. l ++ (told.written ++ (live ++ tail))) image_head ∙
         append_assoc a (Record.Marks format next wear ∷ []) (told.written ++ (live ++ tail));
     good = λ last. (
       marks_good can last,

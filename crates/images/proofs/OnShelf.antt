@@ -10,7 +10,7 @@ use Rattle.catalog.specs.Making.{Making}
 use Rattle.catalog.specs.Shelving.{ShelfLaws}
 use Rattle.catalog.specs.Woven.{Label}
 use Rattle.catalog.specs.Laws.Numbers.{pick_put, put_pick, put_put}
-use Rattle.machine.specs.Machine.{Does}
+use Rattle.steps.specs.Machine.{Does}
 use Rattle.images.specs.declared.effect.Effect.{Effect}
 use Rattle.images.specs.Gatherings.{AreRun, event_in}
 
@@ -50,11 +50,11 @@ module _ {S T N : Type 0} (labels : N → List Label) (whole : N → Four T → 
             (subst (λ s. Leads (Does shelf) (map event_in es) s t) (sym (pick_put f w m)) leads.2)),
       )
 
-  pub run_joins : (position : ℕ) (es : List Effect) (f : Four T) (t : T) → fits n f →
+  pub run_joins : (lsn : ℕ) (es : List Effect) (f : Four T) (t : T) → fits n f →
       AllByRecursion (λ e. e.collection ≡ at) es →
-      AreRun shelf position es (pick f (which_of at)) t →
-      AreRun meaning position es (whole n f) (whole n (put f (which_of at) t))
-  run_joins position es f t fit there run = record {
+      AreRun shelf lsn es (pick f (which_of at)) t →
+      AreRun meaning lsn es (whole n f) (whole n (put f (which_of at) t))
+  run_joins lsn es f t fit there run = record {
     leads = leads_join es f t fit there run.leads;
     short = run.short;
     there = run.there;

@@ -9,7 +9,7 @@ use Rattle.std.proofs.lemmas.Bool.{le-ltb}
 use Rattle.std.specs.List.{AllByRecursion}
 use Rattle.calls.specs.Contents.{after}
 use Rattle.calls.specs.Rules.{IsShort}
-use Rattle.record_format.specs.Short.{HoldsShort, AreShort}
+use Rattle.records.specs.Short.{HoldsShort, AreShort}
 use Rattle.records.proofs.Items.{content_after}
 use Rattle.images.specs.declared.effect.Effect.{Effect}
 use Rattle.images.specs.Gathers.{CopyState, gathered, with_effect, with_effect_at, caught_up}
@@ -114,7 +114,7 @@ short_at : (ps : List CopyState) (at : ℕ) (e : Effect) → AreShort widest (ga
     AreShort widest (gathered (with_effect_at ps at e))
 short_at [] at e short call = tt
 short_at (p ∷ ps) zero e short call = (
-  short_one (nat_lt p.stamp e.position) p (record p {
+  short_one (nat_lt p.stamp e.lsn) p (record p {
     collection = record p.collection { content = after p.collection.content e.call e.reply };
   }) short.0 (content_after widest p.collection.content e.call e.reply short.0 call),
   short.1,
@@ -151,20 +151,20 @@ short_calls-left ps qs es left repeated calls = short_left repeated.done left
 
 -- ---- a copy more
 
-not_past : (stamp position : ℕ) → position ≤ stamp → nat_lt stamp position ≡ false
-not_past stamp position low = le-ltb stamp position low
+not_past : (stamp lsn : ℕ) → lsn ≤ stamp → nat_lt stamp lsn ≡ false
+not_past stamp lsn low = le-ltb stamp lsn low
 
 -- Calls that came before a copy leave it.
-pub past_at : (ps : List CopyState) (p : CopyState) (at : ℕ) (e : Effect) → e.position ≤ p.stamp →
+pub past_at : (ps : List CopyState) (p : CopyState) (at : ℕ) (e : Effect) → e.lsn ≤ p.stamp →
     with_effect_at (ps ++ p ∷ []) at e ≡ with_effect_at ps at e ++ p ∷ []
 past_at [] p zero e low = ap (λ b. cond b (record p {
   collection = record p.collection { content = after p.collection.content e.call e.reply };
-}) p ∷ []) (not_past p.stamp e.position low)
+}) p ∷ []) (not_past p.stamp e.lsn low)
 past_at [] p (suc at) e low = refl
 past_at (q ∷ ps) p zero e low = refl
 past_at (q ∷ ps) p (suc at) e low = ap (λ l. q ∷ l) (past_at ps p at e low)
 
-can_past : (ps : List CopyState) (p : CopyState) (at : ℕ) (e : Effect) → e.position ≤ p.stamp →
+can_past : (ps : List CopyState) (p : CopyState) (at : ℕ) (e : Effect) → e.lsn ≤ p.stamp →
     CanRepeatAt ps at e → CanRepeatAt (ps ++ p ∷ []) at e
 can_past [] p zero e low can = λ past. absurd (omega (arith, low, past))
 can_past [] p (suc at) e low can = tt
@@ -172,7 +172,7 @@ can_past (q ∷ ps) p zero e low can = can
 can_past (q ∷ ps) p (suc at) e low can = can_past ps p at e low can
 
 pub can_more : (ps : List CopyState) (p : CopyState) (es : List Effect) →
-    AllByRecursion (λ e. e.position ≤ p.stamp) es → CanCatchUp ps es →
+    AllByRecursion (λ e. e.lsn ≤ p.stamp) es → CanCatchUp ps es →
     CanCatchUp (ps ++ p ∷ []) es
 can_more ps p [] low can = tt
 can_more ps p (e ∷ es) low can = (
@@ -216,7 +216,7 @@ module _ (mark : ℕ) (parts : List CopyState) (effects : List Effect) (frozen :
   pub gathered_more : (now : ℕ) (more : List Effect) (p : CopyState) →
       CanCatchUp parts (effects ++ more) → AllByRecursion (λ e. IsShort widest e.call) more →
       HoldsShort widest p.collection.content →
-      AllByRecursion (λ e. e.position ≤ p.stamp) (effects ++ more) →
+      AllByRecursion (λ e. e.lsn ≤ p.stamp) (effects ++ more) →
       IsGathered (record {
         mark = now;
         parts = parts ++ p ∷ [];

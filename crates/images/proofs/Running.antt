@@ -8,7 +8,7 @@ use Rattle.calls.specs.Transactions.{Event, Leads}
 use Rattle.boosted.specs.Meaning.{Meaning}
 use Rattle.boosted.proofs.Each.{weaker}
 use Rattle.records.proofs.Items.{short_disposable}
-use Rattle.machine.specs.Machine.{Does}
+use Rattle.steps.specs.Machine.{Does}
 use Rattle.images.specs.declared.effect.Effect.{Effect}
 use Rattle.images.specs.Gatherings.{GatheringState, event_in, effect_at, AreRun, noted, to_note}
 use Rattle.images.specs.Gatherings.{max_effects, given_up}
@@ -17,7 +17,7 @@ events_in : (p : ℕ) (es : List Event) → map event_in (map (effect_at p) es) 
 events_in p [] = refl
 events_in p (e ∷ es) = ap (λ l. e ∷ l) (events_in p es)
 
-each_there : (p : ℕ) (es : List Event) → AllByRecursion (λ e. e.position ≡ p) (map (effect_at p) es)
+each_there : (p : ℕ) (es : List Event) → AllByRecursion (λ e. e.lsn ≡ p) (map (effect_at p) es)
 each_there p [] = tt
 each_there p (e ∷ es) = (refl, each_there p es)
 
@@ -36,7 +36,7 @@ are_run meaning p es s t leads short = record {
   there = each_there p es;
 }
 
--- what is put off can be spelled
+-- what is deferred can be spelled
 pub late_short : (es : List Event) → AllByRecursion (λ e. Disposable e.call) es →
     AllByRecursion (λ e. IsShort widest e.call) es
 late_short es late = weaker (λ (e : Event). Disposable e.call)

@@ -14,15 +14,15 @@ use Rattle.undo_log.specs.Logs.{fallen}
 use Rattle.boosted.specs.Meaning.{Meaning, Undoes}
 use Rattle.boosted.proofs.Each.{each_back}
 use Rattle.catalog.specs.Making.{Making}
-use Rattle.record_format.specs.Short.{IsShortReply}
+use Rattle.records.specs.Short.{IsShortReply}
 use Rattle.records.proofs.Items.{widest_reply, short_inverse}
-use Rattle.machine.specs.Machine.{State, Does, BackRow}
-use Rattle.machine.specs.Machines.{IsUpheld, IsAskedEntry}
-use Rattle.machine.specs.Sound.{IsSound}
-use Rattle.machine.proofs.BookLaws.{BookLaws}
-use Rattle.shelf.proofs.PutOffRuns.{leads_once}
-use Rattle.machine.proofs.Steps.{back_settles}
-use Rattle.machine.proofs.UndoneCall.{newest_once}
+use Rattle.steps.specs.Machine.{State, Does, BackRow}
+use Rattle.steps.specs.Machines.{IsUpheld, IsAskedEntry}
+use Rattle.steps.specs.Sound.{IsSound}
+use Rattle.steps.proofs.BookLaws.{BookLaws}
+use Rattle.steps.proofs.DeferredRuns.{leads_once}
+use Rattle.steps.proofs.Steps.{back_settles}
+use Rattle.steps.proofs.UndoneCall.{newest_once}
 use Rattle.images.specs.declared.effect.Effect.{Effect}
 use Rattle.images.specs.Gatherings.{TakesBack}
 
@@ -69,10 +69,10 @@ module _ {S : Type 0} (meaning : Meaning S ℕ) (making : Making S) (short : For
       here) there
 
 -- What takes a call back, made ready to be noted.
-module _ {S : Type 0} (meaning : Meaning S ℕ) (position : ℕ) (x : Event) (s : S) where
+module _ {S : Type 0} (meaning : Meaning S ℕ) (lsn : ℕ) (x : Event) (s : S) where
   -- Where nothing takes it back, it had changed nothing.
   pub not_taken_back : inverse_of x.call x.reply ≡ None →
-      (t : S) × TakesBack meaning position x [] s t
+      (t : S) × TakesBack meaning lsn x [] s t
   not_taken_back none = (
     s,
     record {
@@ -86,9 +86,9 @@ module _ {S : Type 0} (meaning : Meaning S ℕ) (position : ℕ) (x : Event) (s 
   )
 
   pub taken_back_by : (back : Call) → inverse_of x.call x.reply ≡ Some back →
-      IsShortReply widest x.reply → (e : Effect) → (e.position ≡ position) →
+      IsShortReply widest x.reply → (e : Effect) → (e.lsn ≡ lsn) →
       (e.collection ≡ x.at) → (e.call ≡ back) → meaning.answers s x.at back e.reply →
-      (t : S) × TakesBack meaning position x (e ∷ []) s t
+      (t : S) × TakesBack meaning lsn x (e ∷ []) s t
   taken_back_by back is told e there at call answers =
       let t = meaning.leaves s x.at back e.reply in (
         t,
@@ -99,7 +99,8 @@ module _ {S : Type 0} (meaning : Meaning S ℕ) (position : ℕ) (x : Event) (s 
           run = record {
             leads = (
               t,
-              subst (λ b. Does meaning s (record { at = e.collection; call = b; reply = e.reply }) t)
+              subst (λ b. Does meaning s (record { at = e.collection; call = b; reply = e.reply })
+                  t)
                   (sym call)
                   (subst (λ p. Does meaning s (record { at = p; call = back; reply = e.reply }) t)
                   (sym at) (answers, refl)),
@@ -118,11 +119,11 @@ module _ {S : Type 0} (meaning : Meaning S ℕ) (position : ℕ) (x : Event) (s 
 
   pub can_take_back : IsShortReply widest x.reply →
       ((t : S) × Undoes meaning s x.at x.call x.reply t) →
-      (t : S) × (es : List Effect) × TakesBack meaning position x es s t
+      (t : S) × (es : List Effect) × TakesBack meaning lsn x es s t
   can_take_back told can = by (inverse_of x.call x.reply) refl
     where
       by : (o : Option Call) → inverse_of x.call x.reply ≡ o →
-          (t : S) × (es : List Effect) × TakesBack meaning position x es s t
+          (t : S) × (es : List Effect) × TakesBack meaning lsn x es s t
       by None is = let none = not_taken_back is in (none.0, [], none.1)
       by (Some back) is =
           let did : (reply : Reply) × (meaning.answers s x.at back reply ×
@@ -131,7 +132,7 @@ module _ {S : Type 0} (meaning : Meaning S ℕ) (position : ℕ) (x : Event) (s 
           (λ b. (reply : Reply) × (meaning.answers s x.at b reply ×
           (can.0 ≡ meaning.leaves s x.at b reply)))) is can.1 in
           let one : Effect = record {
-            position = position;
+            lsn = lsn;
             collection = x.at;
             call = back;
             reply = did.0;

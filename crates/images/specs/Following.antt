@@ -13,6 +13,6 @@ pub record Follows (g : GatherState) (later : List Effect) (xs : List Collection
   pub leads : gathered (caught_up g.parts (g.effects ++ later)) ≡ take (length g.parts) xs
 
 -- All copies were taken, and all calls were run, when there were at most so many records.
-pub record CameBy (g : GatherState) (later : List Effect) (position : ℕ) : Type 0 where
-  pub stamps : AllByRecursion (λ p. p.stamp ≤ position) g.parts
-  pub positions : AllByRecursion (λ e. e.position ≤ position) (g.effects ++ later)
+pub record CameBy (g : GatherState) (later : List Effect) (lsn : ℕ) : Type 0 where
+  pub stamps : AllByRecursion (λ p. p.stamp ≤ lsn) g.parts
+  pub lsns : AllByRecursion (λ e. e.lsn ≤ lsn) (g.effects ++ later)

@@ -9,12 +9,12 @@ use Rattle.calls.specs.Formats.{widest}
 use Rattle.calls.specs.Rules.{IsShort}
 use Rattle.boosted.specs.Meaning.{IsRoomy}
 use Rattle.catalog.specs.Places.{Reaches}
-use Rattle.record_format.specs.declared.record.Record.{Record}
-use Rattle.record_format.specs.Short.{AreShort}
-use Rattle.blocks.specs.declared.block.Image.{Image}
+use Rattle.records.specs.declared.record.Record.{Record}
+use Rattle.records.specs.Short.{AreShort}
+use Rattle.records.specs.declared.block.Image.{Image}
 use Rattle.undo_log.specs.Logs.{Log}
 use Rattle.images.specs.declared.effect.Effect.{Effect}
-use Rattle.images.specs.declared.gather.Marks.{Marks}
+use Rattle.images.specs.declared.gather.ImageHead.{ImageHead}
 use Rattle.images.specs.Images.{TellsTransactions, TellsGathered, CanStand, IsPacked}
 
 -- A copy of a collection, and where it was taken: how many records came before.
@@ -24,7 +24,7 @@ pub record CopyState : Type 0 where
 
 -- Where the book stood when it was frozen, and the records that tell of its live transactions.
 pub record FrozenState : Type 0 where
-  pub marks : Marks
+  pub image_head : ImageHead
   pub live : List Record
 
 pub record GatherState : Type 0 where
@@ -35,6 +35,10 @@ pub record GatherState : Type 0 where
   -- the calls that are not repeated yet, in the order run
   pub effects : List Effect
   pub frozen : Option FrozenState
+
+-- Nothing is gathered, as it begins.
+abbrev pub nothing_gathered : GatherState
+nothing_gathered = record { mark = 0; parts = []; effects = []; frozen = None }
 
 -- the collections of the copies
 abbrev pub gathered : List CopyState → List Collection
@@ -56,7 +60,7 @@ with_gathered g mark next stamp effects = record g {
 
 -- The copy with the call run on it too, if that came behind the copy.
 abbrev pub with_effect : CopyState → Effect → CopyState
-with_effect p e = cond (nat_lt p.stamp e.position) (record p {
+with_effect p e = cond (nat_lt p.stamp e.lsn) (record p {
   collection = record p.collection { content = after p.collection.content e.call e.reply };
 }) p
 
@@ -73,7 +77,7 @@ caught_up ps (e ∷ es) = caught_up (with_effect_at ps e.collection e) es
 
 -- If the call came behind the copy, it can be run on it: it gets its reply, and there is room.
 abbrev pub CanRepeat : CopyState → Effect → Type 0
-CanRepeat p e = p.stamp < e.position →
+CanRepeat p e = p.stamp < e.lsn →
     Answers p.collection.content e.call e.reply × IsRoomy (Reaches p.collection.content)
 
 abbrev pub CanRepeatAt : List CopyState → ℕ → Effect → Type 0
@@ -102,31 +106,32 @@ pub record Repeats (old new : GatherState) : Type 0 where
 
 -- ---- freezing and packing
 
--- Nothing changed but that the rest of the calls were taken, the marks were noted, and records that
+-- Nothing changed but that the rest of the calls were taken, the head was noted, and records that
 -- tell of the live transactions.
-pub record Freezes (old : GatherState) (marks : Marks) (live : Log) (effects : List Effect)
+pub record Freezes (old : GatherState) (image_head : ImageHead) (live : Log) (effects : List Effect)
     (new : GatherState) : Type 0 where
   pub records : List Record
   pub tells : TellsTransactions live.live live.entries records
   pub is : new ≡ record old {
     effects = old.effects ++ effects;
-    frozen = Some (record { marks = marks; live = records });
+    frozen = Some (record { image_head = image_head; live = records });
   }
 
 -- The image is that of what was gathered, which is frozen: of what the copies come to.
 pub record Packs (g : GatherState) (image : Image) : Type 0 where
   pub frozen : FrozenState
   pub is_frozen : g.frozen ≡ Some frozen
-  pub packed : IsPacked (TellsGathered frozen.marks.format frozen.marks.next frozen.marks.wear
+  pub packed : IsPacked (TellsGathered frozen.image_head.format frozen.image_head.next
+      frozen.image_head.wear
       (gathered (caught_up g.parts g.effects)) frozen.live) image.blocks.items
-  pub end : image.end ≡ frozen.marks.end
-  pub place : image.place ≡ frozen.marks.place
+  pub end : image.end ≡ frozen.image_head.end
+  pub place : image.place ≡ frozen.image_head.place
 
 -- ---- what holds of all that is gathered
 
 abbrev pub IsFrozenWell : Option FrozenState → Type 0
 IsFrozenWell None = Unit {0}
-IsFrozenWell (Some f) = CanStand f.marks.next f.marks.wear f.live
+IsFrozenWell (Some f) = CanStand f.image_head.next f.image_head.wear f.live
 
 -- What is left can be repeated, and all can be spelled.
 pub record IsGathered (g : GatherState) : Type 0 where

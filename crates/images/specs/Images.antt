@@ -11,12 +11,12 @@ use Rattle.calls.specs.Contents.{Collection}
 use Rattle.calls.specs.Limits.{number_end}
 use Rattle.catalog.specs.declared.shown.Shown.{Shown}
 use Rattle.undo_log.specs.Logs.{Statuses, Lives}
-use Rattle.record_format.specs.declared.record.Record.{Record}
-use Rattle.record_format.specs.Records.{AreRecords}
+use Rattle.records.specs.declared.record.Record.{Record}
+use Rattle.records.specs.Records.{AreRecords}
 use Rattle.records.specs.Images.{TellOf, Rise, IsImage}
-use Rattle.machine.specs.Machine.{State}
-use Rattle.blocks.specs.Drafts.{ArePacked}
-use Rattle.blocks.specs.Packings.{joined, AreWhole}
+use Rattle.steps.specs.Machine.{State}
+use Rattle.records.specs.Drafts.{ArePacked}
+use Rattle.records.specs.Packings.{joined, AreWhole}
 use Rattle.images.specs.LiveRecords.{live_record, live_records}
 
 -- The records say that the live transactions, each once and rising, began.
@@ -46,7 +46,7 @@ pub record TellsState {S : Type 0} (collections : S → List Collection) (next :
   pub are_live : (n : ℕ) → Contains numbers n ↔ Lives s.live n
   pub is_image : IsImage s.format next s.wear (collections s.now) numbers (live_records s) rs
 
--- The records tell of these collections beside what is live: the marks, the collections, the live
+-- The records tell of these collections beside what is live: the head, the collections, the live
 -- transactions, and the end.
 pub record TellsGathered (format : Format) (next wear : ℕ) (xs : List Collection)
     (live rs : List Record) :
@@ -55,7 +55,7 @@ pub record TellsGathered (format : Format) (next wear : ℕ) (xs : List Collecti
   pub tells : TellOf xs told
   pub is : rs ≡ Record.Marks format next wear ∷ (told ++ (live ++ Record.ImageEnd ∷ []))
 
--- The marks are in range, and the records of the live transactions may stand anywhere.
+-- The head is in range, and the records of the live transactions may stand anywhere.
 pub record CanStand (next wear : ℕ) (live : List Record) : Type 0 where
   pub low : 1 ≤ next
   pub high : next ≤ number_end

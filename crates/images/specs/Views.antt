@@ -17,7 +17,7 @@ copies_of collection parts = map (copy_of collection) parts
 
 -- what a freeze noted
 abbrev pub frozen_of : Frozen → FrozenState
-frozen_of f = record { marks = f.marks; live = f.live.items }
+frozen_of f = record { image_head = f.image_head; live = f.live.items }
 
 -- all that is gathered
 abbrev pub gather_of : {P : Type 0} → (P → Collection) → ℕ → List (Stamped P) → List Effect →

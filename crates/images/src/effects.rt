@@ -5,7 +5,7 @@ ghost use Rattle.calls.specs.Formats.{widest};
 ghost use Rattle.calls.specs.Rules.{Askable};
 ghost use Rattle.calls.specs.Transactions.{laters_of};
 ghost use Rattle.boosted.specs.Meaning.{Undoes};
-ghost use Rattle.record_format.specs.Short.{IsShortReply};
+ghost use Rattle.records.specs.Short.{IsShortReply};
 ghost use Rattle.undo_log.specs.Entries.{event_of, entry_of, stamped_entry};
 ghost use Rattle.images.specs.Gatherings.{effect_at, TakesBack};
 
@@ -16,13 +16,13 @@ use std::alloc::Global;
 use std::collections::VecDeque;
 use undo_log::{Entry, Logged, Stamped};
 
-// The call once more, which the record at the position tells of.
-pub(crate) fn effect_of(logged: &Logged, position: u64) -> Result<Effect, Refusal>
-    ensures ok { IfOk result (λ effect. effect ≡ effect_at position (event_of logged.now)) }
+// The call once more, which the record at the LSN tells of.
+pub(crate) fn effect_of(logged: &Logged, lsn: u64) -> Result<Effect, Refusal>
+    ensures ok { IfOk result (λ effect. effect ≡ effect_at lsn (event_of logged.now)) }
     ensures refusal { IsOkUnless result Refusal.NoMemory }
 {
     Ok(Effect {
-        position,
+        lsn,
         collection: logged.at,
         call: logged.call.copy()?,
         reply: logged.reply.copy()?,
@@ -33,13 +33,13 @@ pub(crate) fn effect_of(logged: &Logged, position: u64) -> Result<Effect, Refusa
 pub(crate) fn undoing_of<C: Boosted<At = u8>>(
     collections: &C,
     newest: &Logged,
-    position: u64,
+    lsn: u64,
 ) -> Result<Option<Effect>, Refusal>
     requires askable { Askable newest.now.call }
     requires told { IsShortReply widest newest.now.reply }
     requires undoes { (before : C) ×
         Undoes C.meaning collections.now newest.now.at newest.now.call newest.now.reply before }
-    ensures ok { IfOk result (λ undoing. (before : C) × TakesBack C.meaning position
+    ensures ok { IfOk result (λ undoing. (before : C) × TakesBack C.meaning lsn
         (event_of newest.now) (option_to_list undoing) collections.now before) }
     ensures refusal { IsOkUnless result Refusal.NoMemory }
 {
@@ -48,27 +48,27 @@ pub(crate) fn undoing_of<C: Boosted<At = u8>>(
     };
     let reply = collections.look(newest.at, &call)?;
     Ok(Some(Effect {
-        position,
+        lsn,
         collection: newest.at,
         call,
         reply,
     }))
 }
 
-// What a commit runs of these entries: what they put off, and what their calls left, in the order
+// What a commit runs of these entries: what they deferred, and what their calls left, in the order
 // asked.
 pub(crate) fn laters_in(
     alloc: Global,
     entries: &[Stamped],
-    position: u64,
+    lsn: u64,
 ) -> Result<VecDeque<Effect>, Refusal>
     ensures ok { IfOk result (λ effects. effects.items ≡
-        map (effect_at position) (laters_of (map stamped_entry entries.now))) }
+        map (effect_at lsn) (laters_of (map stamped_entry entries.now))) }
     ensures refusal { IsOkUnless result Refusal.NoMemory }
 {
     let mut effects = VecDeque::new(alloc);
     for stamped in entries {
-        if let Some(effect) = later_in(&stamped.entry, position)? {
+        if let Some(effect) = later_in(&stamped.entry, lsn)? {
             effects.push_back(effect)?;
         }
     }
@@ -76,9 +76,9 @@ pub(crate) fn laters_in(
 }
 
 // What a commit runs of one entry.
-fn later_in(entry: &Entry, position: u64) -> Result<Option<Effect>, Refusal>
+fn later_in(entry: &Entry, lsn: u64) -> Result<Option<Effect>, Refusal>
     ensures ok { IfOk result (λ effect. option_to_list effect ≡
-        map (effect_at position) (laters_of (entry_of entry.now ∷ []))) }
+        map (effect_at lsn) (laters_of (entry_of entry.now ∷ []))) }
     ensures refusal { IsOkUnless result Refusal.NoMemory }
 {
     let (collection, call) = match entry {
@@ -86,10 +86,10 @@ fn later_in(entry: &Entry, position: u64) -> Result<Option<Effect>, Refusal>
             Some(left) => (logged.at, left),
             None => return Ok(None),
         },
-        Entry::PutOff(later) => (later.at, later.call.copy()?),
+        Entry::Deferred(later) => (later.at, later.call.copy()?),
     };
     Ok(Some(Effect {
-        position,
+        lsn,
         collection,
         call,
         reply: Reply::Done,

@@ -7,9 +7,9 @@ ghost use Rattle.std.specs.VecDeque.{deque_capacity};
 ghost use Rattle.std.specs.List.{AllByRecursion};
 ghost use Rattle.calls.specs.declared.refusal.Refusal.{Refusal};
 ghost use Rattle.undo_log.specs.Logs.{Lives};
-ghost use Rattle.record_format.specs.Records.{IsNumber};
-ghost use Rattle.record_format.specs.Short.{HoldsShort};
-ghost use Rattle.machine.specs.Machines.{IsAskedEntry};
+ghost use Rattle.records.specs.Records.{IsNumber};
+ghost use Rattle.records.specs.Short.{HoldsShort};
+ghost use Rattle.steps.specs.Machines.{IsAskedEntry};
 ghost use Rattle.images.specs.Gathers.{CanCatchUp, HaveRepeated, Repeats, Freezes, Packs};
 ghost use Rattle.images.specs.Gathers.{with_gathered};
 ghost use Rattle.images.specs.Views.{copies_of};
@@ -20,10 +20,9 @@ use crate::Effect;
 use crate::packing::pack;
 use crate::stamped::{Stamped, repeat};
 use crate::telling::live_records;
-use blocks::Image;
 use calls::{Format, Refusal};
 use catalog::Part;
-use records::Record;
+use records::{Image, Record};
 use std::alloc::Global;
 use std::collections::VecDeque;
 use std::marker::Model;
@@ -33,7 +32,7 @@ use undo_log::Live;
 /// Where a book stands: the format of its store, a number above every one that was entered, the
 /// wear, how many records came before, and how many commits and makes.
 #[derive(Clone, Copy)]
-pub struct Marks {
+pub struct ImageHead {
     pub format: Format,
     pub next: u64,
     pub wear: u64,
@@ -44,16 +43,16 @@ pub struct Marks {
 /// What was noted of a book when it was frozen.
 #[derive(Drop)]
 pub(crate) struct Frozen {
-    pub(crate) marks: Marks,
+    pub(crate) image_head: ImageHead,
     pub(crate) live: Vec<Record>,
 }
 
 /// What is gathered of a book for an image: copies of its collections, taken at different moments,
 /// the calls that were run behind them, and what stood beside the collections at the end. It is
 /// filled while the book is held, and works by itself. Contracts see what the copies hold, with the
-/// positions at which they were taken, the calls that are not repeated on them yet, and what was
-/// noted at the freeze; and which gathering of the book it is, by a number, 0 where nothing was
-/// gathered yet.
+/// LSNs at which they were taken, the calls that are not repeated on them yet, and what was noted
+/// at the freeze; and which gathering of the book it is, by a number, 0 where nothing was gathered
+/// yet.
 pub struct Gather<P: Part> {
     alloc: Global,
     mark: u64,
@@ -123,11 +122,11 @@ impl<P: Part> Gather<P> {
     }
 
     /// Where the book stood when it was frozen, if it was.
-    pub fn marks(&self) -> Option<Marks>
-        ensures { result ≡ option_map (λ f. f.marks) self.now.frozen }
+    pub fn image_head(&self) -> Option<ImageHead>
+        ensures { result ≡ option_map (λ f. f.image_head) self.now.frozen }
     {
         match &self.frozen {
-            Some(frozen) => Some(frozen.marks),
+            Some(frozen) => Some(frozen.image_head),
             None => None,
         }
     }
@@ -148,7 +147,7 @@ impl<P: Part> Gather<P> {
         requires short { IfSome part (λ p. HoldsShort widest (P.collection p).content) }
         requires can { CanCatchUp self.old.parts (self.old.effects ++ effects.old.items) }
         requires short_calls { AllByRecursion (λ e. IsShort widest e.call) effects.old.items }
-        requires behind { AllByRecursion (λ e. e.position ≤ stamp)
+        requires behind { AllByRecursion (λ e. e.lsn ≤ stamp)
             (self.old.effects ++ effects.old.items) }
         ensures ok { OnOk result (self.new ≡ with_gathered self.old mark
             (option_map P.collection part) stamp effects.old.items) }
@@ -186,22 +185,22 @@ impl<P: Part> Gather<P> {
     /// Takes the rest of the calls that were run on the collections, and notes where the book
     /// stands, and the records that tell of its live transactions: that each began, by rising
     /// number, and then what they asked for in its order, but for calls that only read and what a
-    /// falling one put off. It takes time and memory in proportion to these.
+    /// falling one deferred. It takes time and memory in proportion to these.
     ///
     /// NoMemory, which leaves the calls where they are, and all as before.
     pub fn freeze(
         &mut self,
-        marks: Marks,
+        image_head: ImageHead,
         live: &Live,
         effects: &mut VecDeque<Effect>,
     ) -> Result<(), Refusal>
-        requires next { (1 ≤ marks.next) × (marks.next ≤ number_end) }
+        requires next { (1 ≤ image_head.next) × (image_head.next ≤ number_end) }
         requires numbers { (n : ℕ) → Lives live.now.live n → IsNumber n }
         requires asked { AllByRecursion (λ e. IsNumber e.0 × IsAskedEntry widest e.1)
             live.now.entries }
         requires can { CanCatchUp self.old.parts (self.old.effects ++ effects.old.items) }
         requires short_calls { AllByRecursion (λ e. IsShort widest e.call) effects.old.items }
-        ensures ok { OnOk result (Freezes self.old marks live.now effects.old.items self.new) }
+        ensures ok { OnOk result (Freezes self.old image_head live.now effects.old.items self.new) }
         ensures taken { OnOk result (effects.new.items ≡ []) }
         ensures err { OnErr result (self.new ≡ self.old) }
         ensures kept { OnErr result (effects.new.items ≡ effects.old.items) }
@@ -210,11 +209,11 @@ impl<P: Part> Gather<P> {
     {
         let live = live_records(self.alloc, live)?;
         self.effects.append(effects)?;
-        self.frozen = Some(Frozen { marks, live });
+        self.frozen = Some(Frozen { image_head, live });
         Ok(())
     }
 
-    /// The image of what was gathered, which is frozen, in whole blocks: the marks, the collections
+    /// The image of what was gathered, which is frozen, in whole blocks: the head, the collections
     /// with their items, the records of the live transactions, and the end. The calls that are left
     /// are repeated first, as `catch_up` does.
     ///
@@ -247,8 +246,8 @@ impl<P: Part> Gather<P> {
         match &self.frozen {
             Some(frozen) => Ok(Image {
                 blocks: pack(self.alloc, &self.copies, frozen)?,
-                end: frozen.marks.end,
-                place: frozen.marks.place,
+                end: frozen.image_head.end,
+                place: frozen.image_head.place,
             }),
             None => unreachable!(),
         }

@@ -11,10 +11,10 @@ ghost use Rattle.calls.specs.Transactions.{laters_of};
 ghost use Rattle.boosted.specs.Meaning.{Undoes};
 ghost use Rattle.undo_log.specs.Entries.{event_of, stamped_entry};
 ghost use Rattle.undo_log.specs.Logs.{Lives};
-ghost use Rattle.record_format.specs.Records.{IsNumber};
-ghost use Rattle.record_format.specs.Short.{HoldsShort, IsShortReply};
-ghost use Rattle.machine.specs.Machine.{State};
-ghost use Rattle.machine.specs.Machines.{IsAskedEntry};
+ghost use Rattle.records.specs.Records.{IsNumber};
+ghost use Rattle.records.specs.Short.{HoldsShort, IsShortReply};
+ghost use Rattle.steps.specs.Machine.{State};
+ghost use Rattle.steps.specs.Machines.{IsAskedEntry};
 ghost use Rattle.images.specs.declared.effect.Effect.{Effect};
 ghost use Rattle.images.specs.Gatherings.{none_begun, noted, to_note, given_up, effect_at};
 ghost use Rattle.images.specs.Gatherings.{TakesBack, CanGoOn, IsNextOf, part_of, IsMarked};
@@ -22,7 +22,7 @@ ghost use Rattle.images.specs.Gatherings.{IsUnderWay, GoesAlong, GatherAnswers};
 ghost use Rattle.images.specs.Gatherings.{IsWhole, FreezeRefused, HoldsAll};
 
 use crate::effects::{effect_of, laters_in, undoing_of};
-use crate::{Effect, Gather, Marks};
+use crate::{Effect, Gather, ImageHead};
 use boosted::Boosted;
 use calls::Refusal;
 use calls::limits::NUMBER_END;
@@ -84,39 +84,39 @@ impl Gathering {
         }
     }
 
-    /// The call as it is noted, which the record at the position tells of; none where no gathering
-    /// is under way. It is a copy of the call and of its reply.
+    /// The call as it is noted, which the record at the LSN tells of; none where no gathering is
+    /// under way. It is a copy of the call and of its reply.
     ///
     /// NoMemory, which comes only while a gathering is under way.
-    pub fn effect_of_call(&self, asked: &Logged, position: u64) -> Result<Option<Effect>, Refusal>
+    pub fn effect_of_call(&self, asked: &Logged, lsn: u64) -> Result<Option<Effect>, Refusal>
         ensures ok { IfOk result (λ effect. option_to_list effect ≡
-            to_note self.now (effect_at position (event_of asked.now) ∷ [])) }
+            to_note self.now (effect_at lsn (event_of asked.now) ∷ [])) }
         ensures refusal { IsOkUnless result Refusal.NoMemory }
         ensures succeeds { OnErr result (self.now.going ≡ true) }
     {
         if !self.going {
             return Ok(None);
         }
-        Ok(Some(effect_of(asked, position)?))
+        Ok(Some(effect_of(asked, lsn)?))
     }
 
     /// The call that takes this one back, if it had changed something, as it is noted; none where
-    /// no gathering is under way. The record at the position tells of it. It costs what
-    /// `Boosted::look` does, and a copy of a value.
+    /// no gathering is under way. The record at the LSN tells of it. It costs what `Boosted::look`
+    /// does, and a copy of a value.
     ///
     /// NoMemory, which comes only while a gathering is under way.
     pub fn effect_of_undoing<C: Boosted<At = u8>>(
         &self,
         collections: &C,
         newest: &Logged,
-        position: u64,
+        lsn: u64,
     ) -> Result<Option<Effect>, Refusal>
         requires askable { Askable newest.now.call }
         requires told { IsShortReply widest newest.now.reply }
         requires undoes { (before : C) × Undoes C.meaning collections.now newest.now.at
             newest.now.call newest.now.reply before }
         ensures ok { IfOk result (λ effect. (before : C) × (es : List Effect) ×
-            TakesBack C.meaning position (event_of newest.now) es collections.now before ×
+            TakesBack C.meaning lsn (event_of newest.now) es collections.now before ×
             (option_to_list effect ≡ to_note self.now es)) }
         ensures refusal { IsOkUnless result Refusal.NoMemory }
         ensures succeeds { OnErr result (self.now.going ≡ true) }
@@ -124,28 +124,28 @@ impl Gathering {
         if !self.going {
             return Ok(None);
         }
-        undoing_of(collections, newest, position)
+        undoing_of(collections, newest, lsn)
     }
 
-    /// What a commit runs of these entries, as it is noted: what they put off, and what their calls
-    /// left, in the order asked; nothing where no gathering is under way. The record at the
-    /// position tells of it.
+    /// What a commit runs of these entries, as it is noted: what they deferred, and what their
+    /// calls left, in the order asked; nothing where no gathering is under way. The record at the
+    /// LSN tells of it.
     ///
     /// NoMemory, which comes only while a gathering is under way.
     pub fn effects_of_commit(
         &self,
         entries: &[Stamped],
-        position: u64,
+        lsn: u64,
     ) -> Result<VecDeque<Effect>, Refusal>
         ensures ok { IfOk result (λ effects. effects.items ≡ to_note self.now
-            (map (effect_at position) (laters_of (map stamped_entry entries.now)))) }
+            (map (effect_at lsn) (laters_of (map stamped_entry entries.now)))) }
         ensures refusal { IsOkUnless result Refusal.NoMemory }
         ensures succeeds { OnErr result (self.now.going ≡ true) }
     {
         if !self.going {
             return Ok(VecDeque::new(self.alloc));
         }
-        laters_in(self.alloc, entries, position)
+        laters_in(self.alloc, entries, lsn)
     }
 
     /// Notes a call, if there is one, behind the others: it was run. With more than 16,384 the
@@ -205,27 +205,27 @@ impl Gathering {
         &mut self,
         count: usize,
         part: Result<Option<B::Part>, Refusal>,
-        position: u64,
+        lsn: u64,
         gather: &mut Gather<B::Part>,
     ) -> Result<bool, Refusal>
-        requires next { (now : B) × IsNextOf B.collections self.old now position gather.old count
+        requires next { (now : B) × IsNextOf B.collections self.old now lsn gather.old count
             (part_of B.Part.collection part) }
         requires short { CanGoOn self.old gather.old → IfOk part (λ o. IfSome o
             (λ p. HoldsShort widest (B.Part.collection p).content)) }
-        ensures answer { (now : B) → IsNextOf B.collections self.old now position gather.old count
+        ensures answer { (now : B) → IsNextOf B.collections self.old now lsn gather.old count
             (part_of B.Part.collection part) →
-            GatherAnswers (B.collections now) position self.old gather.old result self.new
+            GatherAnswers (B.collections now) lsn self.old gather.old result self.new
             gather.new }
-        ensures along { OnOk result ((now : B) → IsNextOf B.collections self.old now position
+        ensures along { OnOk result ((now : B) → IsNextOf B.collections self.old now lsn
             gather.old count (part_of B.Part.collection part) →
-            GoesAlong B.collections self.new now position gather.new) }
+            GoesAlong B.collections self.new now lsn gather.new) }
     {
         if gather.mark() == 0 {
-            return self.begin::<B>(count, part, position, gather);
+            return self.begin::<B>(count, part, lsn, gather);
         }
         self.check_going(gather)?;
         let part = part?;
-        gather.gather(self.begun, part, position, &mut self.effects)?;
+        gather.gather(self.begun, part, lsn, &mut self.effects)?;
         Ok(gather.copied() < count)
     }
 
@@ -250,30 +250,31 @@ impl Gathering {
     }
 
     /// Ends the gathering, which `check_freeze` lets: hands over the rest of the calls, and notes
-    /// beside them the live transactions and the marks of where the book stands.
+    /// beside them the live transactions and the head of where the book stands.
     ///
     /// NoMemory, which leaves all as before.
     pub fn freeze<B: Parts>(
         &mut self,
-        marks: Marks,
+        image_head: ImageHead,
         live: &Live,
         gather: &mut Gather<B::Part>,
     ) -> Result<(), Refusal>
-        requires next { (1 ≤ marks.next) × (marks.next ≤ number_end) }
+        requires next { (1 ≤ image_head.next) × (image_head.next ≤ number_end) }
         requires numbers { (n : ℕ) → Lives live.now.live n → IsNumber n }
         requires asked { AllByRecursion (λ e. IsNumber e.0 × IsAskedEntry widest e.1)
             live.now.entries }
-        requires along { (now : B) × GoesAlong B.collections self.old now marks.end gather.old }
+        requires along { (now : B) × GoesAlong B.collections self.old now image_head.end
+            gather.old }
         ensures ended { OnOk result (self.new ≡ given_up self.old) }
         ensures mark { OnOk result (gather.new.mark ≡ gather.old.mark) }
-        ensures holds { OnOk result ((s : State B) → IsMarked s live.now marks →
+        ensures holds { OnOk result ((s : State B) → IsMarked s live.now image_head →
             (length (B.collections s.now) ≤ length gather.old.parts) →
-            GoesAlong B.collections self.old s.now marks.end gather.old →
-            HoldsAll B.collections marks.next marks.place marks.end s gather.new) }
+            GoesAlong B.collections self.old s.now image_head.end gather.old →
+            HoldsAll B.collections image_head.next image_head.place image_head.end s gather.new) }
         ensures same { OnErr result ((self.new ≡ self.old) × (gather.new ≡ gather.old)) }
         ensures refusal { IsOkUnless result Refusal.NoMemory }
     {
-        gather.freeze(marks, live, &mut self.effects)?;
+        gather.freeze(image_head, live, &mut self.effects)?;
         self.going = false;
         Ok(())
     }
@@ -283,21 +284,21 @@ impl Gathering {
         &mut self,
         count: usize,
         part: Result<Option<B::Part>, Refusal>,
-        position: u64,
+        lsn: u64,
         gather: &mut Gather<B::Part>,
     ) -> Result<bool, Refusal>
         requires new { gather.old.mark ≡ 0 }
-        requires next { (now : B) × IsNextOf B.collections self.old now position gather.old count
+        requires next { (now : B) × IsNextOf B.collections self.old now lsn gather.old count
             (part_of B.Part.collection part) }
         requires short { CanGoOn self.old gather.old → IfOk part (λ o. IfSome o
             (λ p. HoldsShort widest (B.Part.collection p).content)) }
-        ensures answer { (now : B) → IsNextOf B.collections self.old now position gather.old count
+        ensures answer { (now : B) → IsNextOf B.collections self.old now lsn gather.old count
             (part_of B.Part.collection part) →
-            GatherAnswers (B.collections now) position self.old gather.old result self.new
+            GatherAnswers (B.collections now) lsn self.old gather.old result self.new
             gather.new }
-        ensures along { OnOk result ((now : B) → IsNextOf B.collections self.old now position
+        ensures along { OnOk result ((now : B) → IsNextOf B.collections self.old now lsn
             gather.old count (part_of B.Part.collection part) →
-            GoesAlong B.collections self.new now position gather.new) }
+            GoesAlong B.collections self.new now lsn gather.new) }
     {
         if self.begun >= NUMBER_END {
             drop(part);
@@ -306,7 +307,7 @@ impl Gathering {
         let part = part?;
         self.effects.reserve(MAX_EFFECTS - self.effects.len())?;
         let mut none = VecDeque::new(self.alloc);
-        gather.gather(self.begun + 1, part, position, &mut none)?;
+        gather.gather(self.begun + 1, part, lsn, &mut none)?;
         self.effects.clear();
         self.begun += 1;
         self.going = true;

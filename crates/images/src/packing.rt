@@ -5,20 +5,19 @@ ghost use Rattle.std.specs.Prelude.{IfOk, IsOkUnless};
 ghost use Rattle.std.specs.List.{AllByRecursion};
 ghost use Rattle.calls.specs.Names.{IsName};
 ghost use Rattle.calls.specs.Contents.{IsItemOf};
-ghost use Rattle.record_format.specs.Records.{FitsItem, Fits};
-ghost use Rattle.record_format.specs.Short.{AreShort, HoldsShort, IsShortItem};
+ghost use Rattle.records.specs.Records.{FitsItem, Fits};
+ghost use Rattle.records.specs.Short.{AreShort, HoldsShort, IsShortItem};
 ghost use Rattle.records.specs.Images.{TellsOf, TellOf};
-ghost use Rattle.blocks.specs.Packings.{joined, Writes};
+ghost use Rattle.records.specs.Packings.{joined, Writes};
 ghost use Rattle.images.specs.Images.{AreOf, CanStand, TellsGathered, IsPacked};
 ghost use Rattle.images.specs.Gathers.{gathered};
 ghost use Rattle.images.specs.Views.{copies_of};
 
 use crate::gather::Frozen;
 use crate::stamped::Stamped;
-use blocks::Packer;
 use calls::{Item, Refusal};
 use catalog::{Part, Shown};
-use records::{Record, fits_item};
+use records::{Packer, Record, fits_item};
 use std::alloc::Global;
 use std::collections::VecDeque;
 
@@ -29,10 +28,11 @@ pub(crate) fn pack<P: Part>(
     frozen: &Frozen,
 ) -> Result<VecDeque<Vec<u8>>, Refusal>
     requires short { AreShort widest (gathered (copies_of P.collection copies.now)) }
-    requires can_stand { CanStand frozen.now.marks.next frozen.now.marks.wear
+    requires can_stand { CanStand frozen.now.image_head.next frozen.now.image_head.wear
         frozen.now.live.items }
     ensures image { IfOk result (λ blocks. IsPacked
-        (TellsGathered frozen.now.marks.format frozen.now.marks.next frozen.now.marks.wear
+        (TellsGathered frozen.now.image_head.format frozen.now.image_head.next
+        frozen.now.image_head.wear
         (gathered (copies_of P.collection copies.now)) frozen.now.live.items) blocks.items) }
     ensures refusal { IsOkUnless result Refusal.NoMemory }
 {
@@ -48,17 +48,18 @@ fn push_gathered<P: Part>(
     packer: &mut Packer,
 ) -> Result<(), Refusal>
     requires short { AreShort widest (gathered (copies_of P.collection copies.now)) }
-    requires can_stand { CanStand frozen.now.marks.next frozen.now.marks.wear
+    requires can_stand { CanStand frozen.now.image_head.next frozen.now.image_head.wear
         frozen.now.live.items }
     ensures told { OnOk result (Writes (joined packer.old) (joined packer.new)
-        (TellsGathered frozen.now.marks.format frozen.now.marks.next frozen.now.marks.wear
+        (TellsGathered frozen.now.image_head.format frozen.now.image_head.next
+        frozen.now.image_head.wear
         (gathered (copies_of P.collection copies.now)) frozen.now.live.items)) }
     ensures refusal { IsOkUnless result Refusal.NoMemory }
 {
     packer.push(Record::Marks {
-        format: frozen.marks.format,
-        next: frozen.marks.next,
-        wear: frozen.marks.wear,
+        format: frozen.image_head.format,
+        next: frozen.image_head.next,
+        wear: frozen.image_head.wear,
     })?;
     push_copies(copies, packer)?;
     push_records(&frozen.live, packer)?;
@@ -88,8 +89,10 @@ fn push_copy<P: Part>(part: &P, packer: &mut Packer) -> Result<(), Refusal>
     push_shown(part.shown()?, packer)
 }
 
-// Writes the records of a collection.
-pub(crate) fn push_shown(shown: Shown, packer: &mut Packer) -> Result<(), Refusal>
+/// Writes the records of a collection: its name with its kind, and then its items in their order.
+///
+/// NoMemory, which may leave some of them written.
+pub fn push_shown(shown: Shown, packer: &mut Packer) -> Result<(), Refusal>
     requires name { IsName shown.name }
     requires items { AllByRecursion (λ i. IsShortItem widest i × IsItemOf shown.kind i)
         shown.items.items }
@@ -129,8 +132,10 @@ fn push_item(item: Item, packer: &mut Packer) -> Result<(), Refusal>
     packer.push(Record::Item(item))
 }
 
-// Writes the records, in their order.
-pub(crate) fn push_records(records: &[Record], packer: &mut Packer) -> Result<(), Refusal>
+/// Writes the records, in their order.
+///
+/// NoMemory, which may leave some of them written.
+pub fn push_records(records: &[Record], packer: &mut Packer) -> Result<(), Refusal>
     requires { AllByRecursion Fits records.now }
     ensures told { OnOk result (joined packer.new ≡ joined packer.old ++ records.now) }
     ensures refusal { IsOkUnless result Refusal.NoMemory }

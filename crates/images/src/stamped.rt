@@ -24,7 +24,7 @@ impl<P: Part> Stamped<P> {
             copy_of P.collection self.old) }
         ensures refusal { IsOkUnless result Refusal.NoMemory }
     {
-        if self.stamp < effect.position {
+        if self.stamp < effect.lsn {
             return self.part.run(&effect.call, &effect.reply);
         }
         Ok(())

@@ -7,9 +7,9 @@ ghost use Rattle.calls.specs.Rules.{Deferrable, inverse_of};
 ghost use Rattle.calls.specs.Transactions.{Asked};
 ghost use Rattle.undo_log.specs.Entries.{event_of, entry_of, owned_entry};
 ghost use Rattle.undo_log.specs.Logs.{Lives};
-ghost use Rattle.record_format.specs.Records.{call_record, IsNumber, AreRecords};
-ghost use Rattle.blocks.specs.Packings.{Writes};
-ghost use Rattle.machine.specs.Machines.{IsAskedEntry};
+ghost use Rattle.records.specs.Records.{call_record, IsNumber, AreRecords};
+ghost use Rattle.records.specs.Packings.{Writes};
+ghost use Rattle.steps.specs.Machines.{IsAskedEntry};
 ghost use Rattle.images.specs.Images.{TellsLive, TellsTransactions};
 ghost use Rattle.images.specs.LiveRecords.{live_record};
 
@@ -18,9 +18,11 @@ use records::{CallRecord, LaterRecord, Record, fits_call, fits_reply};
 use std::alloc::Global;
 use undo_log::{Entry, Handle, Later, Live, Logged, Owned};
 
-// The records that tell of the live transactions: that each began, by rising number, and then what
-// they asked for, in the order asked.
-pub(crate) fn live_records(alloc: Global, live: &Live) -> Result<Vec<Record>, Refusal>
+/// The records that tell of the live transactions: that each began, by rising number, and then what
+/// they asked for, in the order asked. It takes time and memory in proportion to that.
+///
+/// NoMemory.
+pub fn live_records(alloc: Global, live: &Live) -> Result<Vec<Record>, Refusal>
     requires numbers { (n : ℕ) → Lives live.now.live n → IsNumber n }
     requires asked { AllByRecursion (λ e. IsNumber e.0 × IsAskedEntry widest e.1) live.now.entries }
     ensures told { IfOk result (λ told.
@@ -62,7 +64,7 @@ fn tell_entries(live: &Live, told: &mut Vec<Record>) -> Result<(), Refusal>
     Ok(())
 }
 
-// Tells what was asked for, but for calls that only read and what a falling transaction put off.
+// Tells what was asked for, but for calls that only read and what a falling transaction deferred.
 fn tell_entry(live: &Live, owned: &Owned<'_>, told: &mut Vec<Record>) -> Result<(), Refusal>
     requires { IsNumber owned.now.owner × IsAskedEntry widest (entry_of owned.now.entry.now) }
     ensures told { OnOk result (Writes told.old.items told.new.items
@@ -76,7 +78,7 @@ fn tell_entry(live: &Live, owned: &Owned<'_>, told: &mut Vec<Record>) -> Result<
             }
             tell_call(owned.owner, logged, told)
         }
-        Entry::PutOff(later) => {
+        Entry::Deferred(later) => {
             let number = owned.owner;
             let slot = live.slot(number);
             if live.is_falling(Handle { number, slot }) {
@@ -111,10 +113,10 @@ fn tell_call(number: u64, logged: &Logged, told: &mut Vec<Record>) -> Result<(),
     tell(Record::LiveCall(called), told)
 }
 
-// Tells a call that a live transaction put off.
+// Tells a call that a live transaction deferred.
 fn tell_later(number: u64, later: &Later, told: &mut Vec<Record>) -> Result<(), Refusal>
     requires number { IsNumber number }
-    requires put_off { Deferrable later.now.call }
+    requires deferred { Deferrable later.now.call }
     ensures told { OnOk result (Writes told.old.items told.new.items
         (λ rs. rs ≡ Record.LiveLater (record {
           number = number;

@@ -34,10 +34,10 @@ use Rattle.calls.specs.Bags.{copies_of}
 use Rattle.calls.proofs.BagPoints.{not_tied}
 use Rattle.calls.proofs.Found.{AreApart, all_found}
 use Rattle.catalog.specs.Holdings.{ListsContent, Loads}
-use Rattle.record_format.specs.Short.{IsShortReply, IsShortItem, HoldsShort, AreShort}
+use Rattle.records.specs.Short.{IsShortReply, IsShortItem, HoldsShort, AreShort}
 use Rattle.catalog.specs.Places.{Reaches, IsWithin}
 use Rattle.catalog.specs.Laws.Makings.{within_more}
-use Rattle.record_format.specs.Reached.{IsReached}
+use Rattle.records.specs.Reached.{IsReached}
 use Rattle.std.proofs.lemmas.Cmp.{tied_itself}
 use Rattle.std.proofs.lemmas.Bool.{cases_eq}
 use Rattle.std.proofs.lemmas.Int.{ints}
@@ -79,7 +79,7 @@ widest_all f [] a = tt
 widest_all f (x ∷ xs) a = (widest_content f x.content a.0, widest_all f xs a.1)
 
 module _ (f : Format) where
-  -- A call that may run in a commit or be put off holds no value.
+  -- A call that may run in a commit or be deferred holds no value.
   pub short_disposable : (c : Call) → Disposable c → IsShort f c
   short_disposable (Call.Bump n) d = tt
   short_disposable (Call.Free x) d = tt

@@ -5,10 +5,10 @@ use Rattle.std.specs.List.{AllByRecursion}
 use Rattle.calls.specs.declared.item.Item.{Item}
 use Rattle.calls.specs.declared.format.Format.{Format}
 use Rattle.calls.specs.Contents.{Collection, kind_of_content}
-use Rattle.calls.specs.Transactions.{Entry, Asked, PutOff}
+use Rattle.calls.specs.Transactions.{Entry, Asked, Deferred}
 use Rattle.catalog.specs.Holdings.{ListsContent}
-use Rattle.record_format.specs.declared.record.Record.{Record}
-use Rattle.record_format.specs.Acts.{event_of}
+use Rattle.records.specs.declared.record.Record.{Record}
+use Rattle.records.specs.Acts.{event_of}
 
 -- The records tell of one collection: its kind and name, and its items in their order.
 pub record TellsOf (x : Collection) (rs : List Record) : Type 0 where
@@ -22,7 +22,7 @@ TellOf [] rs = rs ≡ []
 TellOf (x ∷ xs) rs = (first rest : List Record) × (rs ≡ first ++ rest) × TellsOf x first ×
     TellOf xs rest
 
--- a call, or one that was put off, of a transaction that was live when the image was taken
+-- a call, or one that was deferred, of a transaction that was live when the image was taken
 abbrev pub IsLiveRecord : Record → Type 0
 IsLiveRecord (Record.LiveCall c) = Unit {0}
 IsLiveRecord (Record.LiveLater l) = Unit {0}
@@ -32,7 +32,8 @@ IsLiveRecord r = ⊥
 abbrev pub owned_entries : List Record → List (ℕ × Entry)
 owned_entries [] = []
 owned_entries (Record.LiveCall c ∷ rs) = (c.number, Asked (event_of c)) ∷ owned_entries rs
-owned_entries (Record.LiveLater l ∷ rs) = (l.number, PutOff l.collection l.call) ∷ owned_entries rs
+owned_entries (Record.LiveLater l ∷ rs) =
+    (l.number, Deferred l.collection l.call) ∷ owned_entries rs
 owned_entries (r ∷ rs) = owned_entries rs
 
 -- each number is below all that come behind it

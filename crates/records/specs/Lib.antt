@@ -1,2 +1,14 @@
 pub mod Told
 pub mod Images
+pub mod Records
+pub mod Acts
+pub mod Short
+pub mod Reached
+pub mod RecordReading
+pub mod Wholes
+pub mod Drafts
+pub mod Offers
+pub mod Cuts
+pub mod Carried
+pub mod Waits
+pub mod Packings

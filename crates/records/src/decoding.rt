@@ -1,14 +1,13 @@
 // The record at the front of bytes.
-ghost use Rattle.std.specs.Prelude.{◌≡◌, ℕ, ◌++◌, List, Option, IfOk, IfErr, MatchResult};
+ghost use Rattle.std.specs.Prelude.{◌≡◌, ℕ, List, Option, IfOk, IfErr, MatchResult};
 ghost use Rattle.calls.specs.declared.kind.Kind.{Kind};
-ghost use Rattle.record_format.specs.declared.record.Record.{Record};
-ghost use Rattle.record_format.specs.Records.{spelled, spelling, IsRecord, AreRecords, Begins};
-ghost use Rattle.record_format.specs.Records.{IsWhy};
+ghost use Rattle.records.specs.declared.record.Record.{Record};
+ghost use Rattle.records.specs.Records.{Begins};
+ghost use Rattle.records.specs.Records.{IsWhy};
 
 use crate::sound::is_sound;
+use crate::{Record, Unread, read_record};
 use calls::{Kind, Refusal};
-use record_format::Record;
-use record_reading::{Unread, read_record};
 use std::alloc::Global;
 
 /// The record at the front of the bytes, and the bytes behind it. `last` is the kind that was named
@@ -44,17 +43,3 @@ pub fn decode(
         Err(Unread::Damage) => Err(Refusal::Damaged(place)),
     }
 }
-
-/// A law: no spelling of a record begins another's, so bytes begin with one record at most.
-pub fn one_spelling()
-    ensures { (last : Option Kind) (r s : Record) (x y : List ℕ) → IsRecord last r →
-        IsRecord last s →
-        spelled r ++ x ≡ spelled s ++ y → (r ≡ s) × (x ≡ y) }
-{}
-
-/// A law: the records that bytes spell, one after another and with nothing behind them, are one
-/// list at most.
-pub fn one_list()
-    ensures { (last : Option Kind) (rs ss : List Record) → AreRecords last rs → AreRecords last ss →
-        spelling rs ≡ spelling ss → rs ≡ ss }
-{}

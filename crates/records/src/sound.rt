@@ -2,12 +2,12 @@
 ghost use Rattle.std.specs.Prelude.{◌≡◌, ◌↔◌, IsTrue, IfOk, IsOkUnless};
 ghost use Rattle.calls.specs.declared.refusal.Refusal.{Refusal};
 ghost use Rattle.calls.specs.Rules.{inverse_of, Askable, Pairs};
-ghost use Rattle.record_format.specs.Records.{IsNumber, IsCalled, IsPutOff, IsSound, Fits};
-ghost use Rattle.record_format.specs.Records.{FitsCall, FitsCalled};
+ghost use Rattle.records.specs.Records.{IsNumber, IsCalled, IsSoundLater, IsSound, Fits};
+ghost use Rattle.records.specs.Records.{FitsCall, FitsCalled};
 
+use crate::{CallRecord, LaterRecord, Record};
 use calls::limits::NUMBER_END;
 use calls::{Call, Refusal, Reply, check_call};
-use record_format::{CallRecord, LaterRecord, Record};
 
 // Whether a transaction may have the number.
 fn is_number(number: u64) -> bool
@@ -57,8 +57,8 @@ fn is_asked(call: &Call, reply: &Reply) -> bool
     check_call(call).is_ok() && call.pairs(reply)
 }
 
-fn is_put_off(later: &LaterRecord) -> bool
-    ensures { IsTrue result ↔ IsPutOff later.now }
+fn is_deferred(later: &LaterRecord) -> bool
+    ensures { IsTrue result ↔ IsSoundLater later.now }
 {
     is_number(later.number) && later.call.is_deferrable()
 }
@@ -71,7 +71,7 @@ pub(crate) fn is_sound(entry: &Record) -> Result<bool, Refusal>
 {
     match entry {
         Record::Call(asked) | Record::LiveCall(asked) => is_called(asked),
-        Record::Later(later) | Record::LiveLater(later) => Ok(is_put_off(later)),
+        Record::Later(later) | Record::LiveLater(later) => Ok(is_deferred(later)),
         Record::Commit(number)
         | Record::Back(number)
         | Record::Ended(number)

@@ -24,21 +24,21 @@ use Rattle.disk_model.proofs.Walk.{started, and_then, weaker, leaves_now}
 use Rattle.undo_log.specs.Logs.{Lives}
 use Rattle.gate_block.specs.declared.area.Area.{Area}
 use Rattle.gate_block.specs.Row.{block, row, IsRow, part}
-use Rattle.gate_block.specs.Area.{base_of, size_of, position_of, has_failed, LeavesElsewhere}
+use Rattle.gate_block.specs.Area.{base_of, size_of, offset_of, has_failed, LeavesElsewhere}
 use Rattle.catalog.specs.Holdings.{AreNamed}
 use Rattle.catalog.specs.Making.{names_of, AreDistinct}
 use Rattle.catalog.specs.Places.{IsWithin}
 use Rattle.catalog.specs.Meaning.{catalog_meaning, catalog_making}
-use Rattle.record_format.specs.declared.record.Record.{Record}
-use Rattle.record_format.specs.Records.{spelling}
-use Rattle.record_format.specs.Short.{HoldsShort, AreShort}
+use Rattle.records.specs.declared.record.Record.{Record}
+use Rattle.records.specs.Records.{spelling}
+use Rattle.records.specs.Short.{HoldsShort, AreShort}
 use Rattle.records.specs.Images.{IsImage}
-use Rattle.machine.specs.Machines.{resting, IsUpheld}
-use Rattle.machine.specs.Sound.{IsSound as IsSoundState}
-use Rattle.machine.proofs.LiveNumbers.{nobody}
-use Rattle.blocks.specs.Packings.{joined, AreWhole}
-use Rattle.blocks.specs.Wholes.{IsWhole, body_of}
-use Rattle.blocks.specs.declared.block.Image.{Image}
+use Rattle.steps.specs.Machines.{resting, IsUpheld}
+use Rattle.steps.specs.Sound.{IsSound as IsSoundState}
+use Rattle.steps.proofs.LiveNumbers.{nobody}
+use Rattle.records.specs.Packings.{joined, AreWhole}
+use Rattle.records.specs.Wholes.{IsWhole, body_of}
+use Rattle.records.specs.declared.block.Image.{Image}
 use Rattle.images.specs.Images.{TellsState, IsPackedImage}
 use Rattle.images.specs.LiveRecords.{live_records}
 use Rattle.checkpoint.specs.declared.laying.Laying.{Laying}
@@ -46,26 +46,26 @@ use Rattle.checkpoint.specs.Imaging.{IsTooLong, IsBeingLaid, bodies_of, left_of}
 use Rattle.checkpoint.specs.ImageAnswers.{IsOneFewer}
 use Rattle.checkpoint.proofs.Blocks.{bytes_in, length-whole}
 use Rattle.checkpoint.proofs.GroupLemmas.{whole_bodies}
-use Rattle.repetition.specs.Journals.{IsHeader, Holds, StandsFor, records_in}
+use Rattle.replay.specs.Journals.{IsHeader, Holds, StandsFor, records_in}
 use Rattle.gate_block.specs.Layout.{area_in_use}
-use Rattle.repetition.specs.Steps.{State}
-use Rattle.repetition.specs.Reading.{Named, Progress, Unread, InCollections, InJournal, Closes}
-use Rattle.repetition.specs.Reading.{Reads, AreAccepted, IsSound, Settles}
-use Rattle.repetition.proofs.Lists.{leads_append}
-use Rattle.repetition.proofs.Formats.{allows_self, value_later}
-use Rattle.repetition.proofs.OneFormat.{accepted_on, accepted_holds, repeats_format}
-use Rattle.repetition.proofs.Contents.{content_behind}
-use Rattle.undoing.specs.Undoing.{Undo, IsUndoRecord}
-use Rattle.undoing.proofs.UndoRecords.{undo_acts}
+use Rattle.replay.specs.Steps.{State}
+use Rattle.replay.specs.Reading.{Named, Progress, Unread, InCollections, InJournal, Closes}
+use Rattle.replay.specs.Reading.{Reads, AreAccepted, IsSound, Settles}
+use Rattle.replay.proofs.Lists.{leads_append}
+use Rattle.replay.proofs.Formats.{allows_self, value_later}
+use Rattle.replay.proofs.OneFormat.{accepted_on, accepted_holds, repeats_format}
+use Rattle.replay.proofs.Contents.{content_behind}
+use Rattle.replay.specs.Undoing.{Undo, IsUndoRecord}
+use Rattle.replay.proofs.UndoRecords.{undo_acts}
 use Rattle.recovery.specs.Heads.{HasNoHeader}
-use Rattle.recovery.specs.Formats.{IsRoomFor, IsHeadOf, IsMaking, IsShut}
+use Rattle.recovery.specs.Formatting.{IsRoomFor, IsHeadOf, IsMaking, IsShut}
 use Rattle.recovery.specs.Openings.{IsRead, IsFindRefusal}
 use Rattle.recovery.specs.Copies.{IsFilledWith, IsStoreOf, IsImageOf, SpellsImageOf, IsCopyOf}
 use Rattle.recovery.specs.Copies.{IsTooLarge, IsCopyAnswer, SpellsCopyOf, copied_as}
 use Rattle.recovery.specs.Finding.{IsStored}
 use Rattle.recovery.specs.Surveys.{image_len}
-use Rattle.recovery.proofs.ImageItems.{told_reads}
-use Rattle.recovery.proofs.ImageNames.{accepted_named, repeats_named}
+use Rattle.replay.proofs.ImageItems.{told_reads}
+use Rattle.replay.proofs.ImageNames.{accepted_named, repeats_named}
 use Rattle.recovery.proofs.FormatLemmas.{header_there, root_there, picks_first, shut, rest_kept}
 use Rattle.recovery.proofs.OpenLemmas.{byte_same}
 use Rattle.recovery.proofs.Stores.{one_held, stands_for_one}
@@ -323,7 +323,7 @@ module _ {D : Type 0} (seen : D → List ℕ) (may_leave : D → List ℕ → Ty
   -- From old to new the first blocks of w were laid, and those of v are left.
   pub record LaidOn (w v : Laying) (old new : D) : Type 0 where
     pub fine : has_failed v.area ≡ false
-    pub room : position_of v.area + length (row (bodies_of (left_of v))) < size_of v.area
+    pub room : offset_of v.area + length (row (bodies_of (left_of v))) < size_of v.area
     pub base : base_of v.area ≡ base_of w.area
     pub size : size_of v.area ≡ size_of w.area
     pub long : length (seen new) ≡ length (seen old)
@@ -336,7 +336,7 @@ module _ {D : Type 0} (seen : D → List ℕ) (may_leave : D → List ℕ → Ty
   pub none_laid : (w : Laying) (old : D) →
       ((c : List ℕ) → left_since old (moment old) c → may_leave old c) →
       has_failed w.area ≡ false →
-      position_of w.area + length (row (bodies_of (left_of w))) < size_of w.area →
+      offset_of w.area + length (row (bodies_of (left_of w))) < size_of w.area →
       LaidOn w w old old
   none_laid w old only_now fine room = record {
     fine = fine;
@@ -367,7 +367,7 @@ module _ {D : Type 0} (seen : D → List ℕ) (may_leave : D → List ℕ → Ty
       ((t : ℕ) (c : List ℕ) → t ≤ moment mid → may_leave mid c → left_since mid t c) →
       LeavesOnly moment left_since mid new (LeavesElsewhere (may_leave mid) v.area) →
       IsOneFewer v u more → has_failed u.area ≡ false →
-      position_of u.area + length (row (bodies_of (left_of u))) < size_of u.area →
+      offset_of u.area + length (row (bodies_of (left_of u))) < size_of u.area →
       length (seen new) ≡ length (seen mid) →
       ((bodies : List (List ℕ)) → IsBeingLaid v (seen mid) bodies →
       IsBeingLaid u (seen new) bodies) → fault_count mid ≤ fault_count new → LaidOn w u old new
@@ -406,7 +406,7 @@ pub laid_one : {D : Type 0} (seen : D → List ℕ) (may_leave : D → List ℕ 
     ((t : ℕ) (c : List ℕ) → t ≤ moment mid → may_leave mid c → left_since mid t c) →
     LeavesOnly moment left_since mid new (LeavesElsewhere (may_leave mid) v.area) →
     IfOk r (λ more. IsOneFewer v u more) → OnOk r (has_failed u.area ≡ false) →
-    position_of u.area + length (row (bodies_of (left_of u))) < size_of u.area →
+    offset_of u.area + length (row (bodies_of (left_of u))) < size_of u.area →
     length (seen new) ≡ length (seen mid) →
     ((bodies : List (List ℕ)) → IsBeingLaid v (seen mid) bodies →
     OnOk r (IsBeingLaid u (seen new) bodies)) → fault_count mid ≤ fault_count new →
@@ -431,11 +431,11 @@ row_laid seen may_leave moment left_since fault_count w v old new so_far none bo
     (all_laid v (seen new) bodies none some (so_far.being bodies being)))
 
 -- nothing is laid yet
-pub none_yet : (area : Area) (image : Image) (bytes : List ℕ) → position_of area ≡ 0 →
+pub none_yet : (area : Area) (image : Image) (bytes : List ℕ) → offset_of area ≡ 0 →
     IsBeingLaid (record { area = area; image = image }) bytes (bodies_of image.blocks.items)
-none_yet area image bytes position = record {
+none_yet area image bytes offset = record {
   laid = [];
-  stands = record { position = position; holds = λ some. absurd (some refl) };
+  stands = record { offset = offset; holds = λ some. absurd (some refl) };
   all = refl;
 }
 
@@ -445,16 +445,16 @@ some_bodies (b ∷ bs) some none = absurd (omega (arith, ap length none))
 
 -- all are laid, and the head is written
 pub filled_with : (version : Format) (area : Area) (size : ℕ) (image : Image) (mid new : List ℕ) →
-    base_of area ≡ 4096 → size_of area ≡ size → position_of area ≡ 0 →
+    base_of area ≡ 4096 → size_of area ≡ size → offset_of area ≡ 0 →
     image.blocks.items ≢ [] → (bytes : List ℕ) →
     ((bodies : List (List ℕ)) → bodies ≢ [] →
     IsBeingLaid (record { area = area; image = image }) bytes bodies →
     IsRow bodies (part (base_of area) (size_of area) mid)) → IsHeadOf version size new →
     drop 4096 new ≡ drop 4096 mid → IsFilledWith version size (bodies_of image.blocks.items) new
-filled_with version area size image mid new base size_is position some bytes laid head behind =
+filled_with version area size image mid new base size_is offset some bytes laid head behind =
     let bodies : List (List ℕ) = bodies_of image.blocks.items in
     let row : IsRow bodies (part (base_of area) (size_of area) mid) =
-    laid bodies (some_bodies image.blocks.items some) (none_yet area image bytes position) in
+    laid bodies (some_bodies image.blocks.items some) (none_yet area image bytes offset) in
     let there : IsRow bodies (part 4096 size mid) =
     subst (λ b. IsRow bodies (part b size mid)) base
     (subst (λ n. IsRow bodies (part (base_of area) n mid)) size_is row) in

@@ -4,16 +4,16 @@ use Rattle.calls.specs.declared.format.Format.{Format}
 use Rattle.calls.specs.declared.refusal.Refusal.{Refusal}
 use Rattle.gate_block.specs.declared.area.Area.{Area}
 use Rattle.gate_block.specs.Row.{IsRow, part}
-use Rattle.gate_block.specs.Area.{base_of, size_of, position_of}
+use Rattle.gate_block.specs.Area.{base_of, size_of, offset_of}
 use Rattle.checkpoint.specs.Keepers.{IsOneOfTwo}
-use Rattle.record_format.specs.declared.record.Record.{Record}
-use Rattle.record_format.specs.Records.{spelling}
-use Rattle.repetition.specs.Journals.{IsHeader, records_in}
-use Rattle.repetition.proofs.Formats.{one_version}
+use Rattle.records.specs.declared.record.Record.{Record}
+use Rattle.records.specs.Records.{spelling}
+use Rattle.replay.specs.Journals.{IsHeader, records_in}
+use Rattle.replay.proofs.Formats.{one_version}
 use Rattle.gate_block.specs.Layout.{base_in_use}
 use Rattle.recovery.specs.Heads.{IsHeadRefusal}
-use Rattle.repetition.specs.Steps.{State}
-use Rattle.repetition.specs.Reading.{AreAccepted, IsSound}
+use Rattle.replay.specs.Steps.{State}
+use Rattle.replay.specs.Reading.{AreAccepted, IsSound}
 use Rattle.recovery.specs.Loading.{IsLoaded}
 use Rattle.recovery.specs.declared.report.Report.{Report}
 use Rattle.recovery.specs.Finding.{IsStored, IsFound}
@@ -96,7 +96,7 @@ load_find_refusal risen rises no_head is_honest bytes version size base e f head
 pub stored_there : (bytes : List ℕ) (area : Area) (version : Format) (base size : ℕ) (state : State)
     (next count : ℕ) →
     IsHeader version size bytes → base ≡ base_in_use size bytes → base_of area ≡ base →
-    size_of area ≡ size → IsLoaded version base size bytes state next count (position_of area) →
+    size_of area ≡ size → IsLoaded version base size bytes state next count (offset_of area) →
     IsStored bytes area state next count
 stored_there bytes area version base size state next count header picks base_is size_is loaded =
     record {
@@ -104,9 +104,9 @@ stored_there bytes area version base size state next count header picks base_is 
       header = subst (λ n. IsHeader version n bytes) (sym size_is) header;
       picks = base_is ∙ picks ∙ ap (λ n. base_in_use n bytes) (sym size_is);
       loaded = subst (λ b. IsLoaded version b (size_of area) bytes state next count
-          (position_of area))
+          (offset_of area))
           (sym base_is) (subst (λ n. IsLoaded version base n bytes state next count
-          (position_of area))
+          (offset_of area))
           (sym size_is) loaded);
     }
 

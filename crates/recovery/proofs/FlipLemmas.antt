@@ -9,8 +9,8 @@ use Rattle.gate_block.specs.declared.area.Area.{Area}
 use Rattle.gate_block.specs.Row.{SameOutside}
 use Rattle.gate_block.specs.Area.{base_of, size_of}
 use Rattle.gate_block.specs.Layout.{base_in_use}
-use Rattle.blocks.specs.declared.block.Image.{Image}
-use Rattle.repetition.specs.Journals.{IsHeader}
+use Rattle.records.specs.declared.block.Image.{Image}
+use Rattle.replay.specs.Journals.{IsHeader}
 use Rattle.checkpoint.specs.declared.laying.Laying.{Laying}
 use Rattle.checkpoint.specs.declared.stage.Stage.{Stage}
 use Rattle.checkpoint.specs.Imaging.{IsOther, HasPlainRoot}

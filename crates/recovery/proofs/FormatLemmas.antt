@@ -13,22 +13,22 @@ use Rattle.calls.specs.Formats.{number_of}
 use Rattle.disk_model.specs.Disk.{Overwritten, Torn, IsAtRest, LeavesOnly, WasTorn, Follows}
 use Rattle.disk_model.specs.Disk.{Elapses, HasCause}
 use Rattle.disk_model.specs.declared.disk.Fault.{Fault}
-use Rattle.undoing.proofs.Walks.{rises_before}
+use Rattle.replay.proofs.Walks.{rises_before}
 use Rattle.disk_model.proofs.Stops.{overwritten_torn}
 use Rattle.disk_model.proofs.Walk.{started, goes_on, and_then, weaker}
 use Rattle.gate_block.specs.Row.{IsRow, part, row}
 use Rattle.gate_block.proofs.Parts.{written_there}
-use Rattle.record_format.specs.declared.record.Record.{Record}
-use Rattle.record_format.specs.Records.{spelling, number, AreRecords}
-use Rattle.record_format.specs.Records.{marks_tag}
-use Rattle.repetition.specs.Journals.{letters_of, Holds, IsHeader}
-use Rattle.repetition.proofs.Formats.{allows_self}
+use Rattle.records.specs.declared.record.Record.{Record}
+use Rattle.records.specs.Records.{spelling, number, AreRecords}
+use Rattle.records.specs.Records.{marks_tag}
+use Rattle.replay.specs.Journals.{letters_of, Holds, IsHeader}
+use Rattle.replay.proofs.Formats.{allows_self}
 use Rattle.gate_block.specs.Layout.{base_in_use, area_in_use}
-use Rattle.repetition.specs.Steps.{empty_state}
-use Rattle.repetition.specs.Reading.{InCollections, InJournal, AreAccepted}
+use Rattle.replay.specs.Steps.{empty_state}
+use Rattle.replay.specs.Reading.{InCollections, InJournal, AreAccepted}
 use Rattle.recovery.specs.Heads.{HasNoHeader}
-use Rattle.recovery.specs.Formats.{empty_area, IsHeadOf, IsFilled, IsEmptyStore, IsRoomFor}
-use Rattle.recovery.specs.Formats.{IsMaking, IsShut, IsFormatAnswer}
+use Rattle.recovery.specs.Formatting.{empty_area, IsHeadOf, IsFilled, IsEmptyStore, IsRoomFor}
+use Rattle.recovery.specs.Formatting.{IsMaking, IsShut, IsFormatAnswer}
 
 -- ---- parts that a write leaves
 

@@ -9,8 +9,8 @@ use Rattle.std.specs.Result.{IfErr, OnOk, is_err}
 use Rattle.byteorder.specs.Endian.{big_number}
 use Rattle.calls.specs.declared.format.Format.{Format}
 use Rattle.calls.specs.declared.refusal.Refusal.{Refusal}
-use Rattle.record_reading.proofs.RecordFields.{IsBytes, IsBytes-drop, number-read}
-use Rattle.repetition.specs.Journals.{IsHeader}
+use Rattle.records.proofs.RecordFields.{IsBytes, IsBytes-drop, number-read}
+use Rattle.replay.specs.Journals.{IsHeader}
 use Rattle.recovery.specs.Heads.{IsHead, IsHeadRefusal}
 
 -- the size that a head says, as the number that its last bytes are

@@ -4,10 +4,14 @@ pub mod LoadLemmas
 pub mod OpenLemmas
 pub mod FindLemmas
 pub mod Stores
-pub mod ImageItems
-pub mod ImageNames
 pub mod OpenedStores
 pub mod RefusalLemmas
 mod CopyLemmas
 mod FlipLemmas
 mod UpgradeLemmas
+mod ImageNumbers
+mod ImageEntries
+mod ImageCalls
+mod ImageReading
+pub mod FrozenBooks
+pub mod CommittedReads

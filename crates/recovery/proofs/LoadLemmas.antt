@@ -19,50 +19,50 @@ use Rattle.gate_block.specs.Answers.{IsNextAnswer}
 use Rattle.gate_block.proofs.Facts.{length-row_add, row-append, next_is, none_is_next, not_broken}
 use Rattle.gate_block.proofs.Unique.{first_block}
 use Rattle.gate_block.specs.declared.area.Area.{Area}
-use Rattle.gate_block.specs.Area.{base_of, size_of, position_of, has_failed, bytes_of, body_in}
+use Rattle.gate_block.specs.Area.{base_of, size_of, offset_of, has_failed, bytes_of, body_in}
 use Rattle.gate_block.specs.Area.{IsDamage}
-use Rattle.record_format.specs.declared.record.Record.{Record}
-use Rattle.record_format.specs.Records.{spelling, AreRecords}
-use Rattle.repetition.specs.declared.stage.Stage.{Stage}
-use Rattle.repetition.specs.Journals.{records_in}
-use Rattle.repetition.specs.Steps.{State}
-use Rattle.repetition.specs.Reading.{Progress, Unread, InCollections, InNumbers, InCalls}
-use Rattle.repetition.specs.Reading.{InJournal, Reads, AreAccepted, last_named}
-use Rattle.repetition.specs.Repetitions.{LeadsTo, IsFit, IsDamageOr, progress_of, count_of}
-use Rattle.repetition.specs.Repetitions.{AlikeProgress}
+use Rattle.records.specs.declared.record.Record.{Record}
+use Rattle.records.specs.Records.{spelling, AreRecords}
+use Rattle.replay.specs.declared.stage.Stage.{Stage}
+use Rattle.replay.specs.Journals.{records_in}
+use Rattle.replay.specs.Steps.{State}
+use Rattle.replay.specs.Reading.{Progress, Unread, InCollections, InNumbers, InCalls}
+use Rattle.replay.specs.Reading.{InJournal, Reads, AreAccepted, last_named}
+use Rattle.replay.specs.Repetitions.{LeadsTo, IsFit, IsDamageOr, progress_of, count_of}
+use Rattle.replay.specs.Repetitions.{AlikeProgress}
 use Rattle.recovery.specs.Openings.{AreSound, IsFirstFault, IsSpoilt, IsLoadRefusal}
 use Rattle.recovery.specs.Loading.{IsLoaded, StartsWithImage, IsImagePart, is_imaging, image_behind}
-use Rattle.repetition.proofs.Lists.{flat_map-append, leads_split}
+use Rattle.replay.proofs.Lists.{flat_map-append, leads_split}
 use Rattle.boosted.proofs.Each.{each_append}
-use Rattle.repetition.proofs.RepeatLemmas.{leads_to_nothing, one_group, last_named-append}
-use Rattle.repetition.proofs.RepeatLemmas.{records_append, records_front, records_back}
-use Rattle.undoing.proofs.Walks.{rises_before}
+use Rattle.replay.proofs.RepeatLemmas.{leads_to_nothing, one_group, last_named-append}
+use Rattle.replay.proofs.RepeatLemmas.{records_append, records_front, records_back}
+use Rattle.replay.proofs.Walks.{rises_before}
 
 -- What was read of the area's bytes, up to its next gate, on a disk of the version.
-pub record HasRead (version : Format) (bytes : List ℕ) (position : ℕ) (kind : Option Kind)
+pub record HasRead (version : Format) (bytes : List ℕ) (offset : ℕ) (kind : Option Kind)
     (stage : Stage)
     (next : ℕ) : Type 0 where
   pub blocks : List (List Record)
   pub good : AreRecords None (records_in blocks)
   pub named : kind ≡ last_named None (records_in blocks)
   pub reached : LeadsTo version (records_in blocks) (progress_of stage next)
-  pub position_is : position ≡ length (row (map spelling blocks))
-  pub stood : bytes ≡ row (map spelling blocks) ++ drop position bytes
+  pub offset_is : offset ≡ length (row (map spelling blocks))
+  pub stood : bytes ≡ row (map spelling blocks) ++ drop offset bytes
   pub bodies : AllByRecursion IsBody (map spelling blocks)
   pub only : (others : List (List Record)) → AreRecords None (records_in others) →
       IsRow (map spelling others) bytes → (rest : List (List Record)) × (others ≡ blocks ++ rest)
 
-pub nothing_read : (version : Format) (bytes : List ℕ) (position : ℕ) (kind : Option Kind)
+pub nothing_read : (version : Format) (bytes : List ℕ) (offset : ℕ) (kind : Option Kind)
     (stage : Stage) (next : ℕ) →
-    position ≡ 0 → kind ≡ None → stage ≡ Stage.Unread version →
-    HasRead version bytes position kind stage next
-nothing_read version bytes position kind stage next none unnamed unread = record {
+    offset ≡ 0 → kind ≡ None → stage ≡ Stage.Unread version →
+    HasRead version bytes offset kind stage next
+nothing_read version bytes offset kind stage next none unnamed unread = record {
   blocks = [];
   good = tt;
   named = unnamed;
   reached = subst (λ s. LeadsTo version [] (progress_of s next)) (sym unread)
       (leads_to_nothing version);
-  position_is = none;
+  offset_is = none;
   stood = ap (λ n. drop n bytes) (sym none);
   bodies = tt;
   only = λ others read is. (others, refl);
@@ -82,16 +82,16 @@ first_left last (g ∷ rest) body more good e =
     (g, rest, refl, cc, records_front last g (records_in rest) good)
 
 -- the block that stands behind those that were read, of all that are there
-pub next_group : (blocks others : List (List Record)) (bytes body : List ℕ) (position : ℕ) →
-    position ≡ length (row (map spelling blocks)) → AreRecords None (records_in others) →
+pub next_group : (blocks others : List (List Record)) (bytes body : List ℕ) (offset : ℕ) →
+    offset ≡ length (row (map spelling blocks)) → AreRecords None (records_in others) →
     IsRow (map spelling others) bytes
-    → (rest : List (List Record)) → others ≡ blocks ++ rest → StandsAt bytes position body
+    → (rest : List (List Record)) → others ≡ blocks ++ rest → StandsAt bytes offset body
     → (g : List Record) × (more : List (List Record)) × (rest ≡ g ∷ more) × (spelling g ≡ body) ×
     AreRecords (last_named None (records_in blocks)) g
-next_group blocks others bytes body position here good is rest split stands =
+next_group blocks others bytes body offset here good is rest split stands =
     let parts : map spelling others ≡ map spelling blocks ++ map spelling rest =
     ap (map spelling) split ∙ map-append spelling blocks rest in
-    let next = next_is (map spelling blocks) (map spelling rest) bytes position body here
+    let next = next_is (map spelling blocks) (map spelling rest) bytes offset body here
     (subst (λ l. IsRow l bytes) parts is) stands in
     let records : records_in others ≡ records_in blocks ++ records_in rest =
     ap records_in split ∙ records_in-append blocks rest in
@@ -120,12 +120,12 @@ EndsNowhere stage next = (version : Format) (rs : List Record) →
     (n : ℕ) (s : State) (count : ℕ) → AreAccepted version rs n s count → ⊥
 
 -- one block more
-pub reads_on : (version : Format) (bytes body : List ℕ) (position after : ℕ)
+pub reads_on : (version : Format) (bytes body : List ℕ) (offset after : ℕ)
     (kind later : Option Kind)
-    (stage now : Stage) (next above : ℕ) → HasRead version bytes position kind stage next →
-    StandsAt bytes position body → after ≡ position + 5 + length body
+    (stage now : Stage) (next above : ℕ) → HasRead version bytes offset kind stage next →
+    StandsAt bytes offset body → after ≡ offset + 5 + length body
     → ReadsOn kind stage next body later now above → HasRead version bytes after later now above
-reads_on version bytes body position after kind later stage now next above so_far stands after_is
+reads_on version bytes body offset after kind later stage now next above so_far stands after_is
     repeats =
     let found = repeats version (records_in so_far.blocks) so_far.reached in
     let group : List Record = found.0 in
@@ -143,10 +143,10 @@ reads_on version bytes body position after kind later stage now next above so_fa
     ap row mapped ∙ row-append (map spelling so_far.blocks) (body ∷ []) ∙
     ap (λ l. row (map spelling so_far.blocks) ++ l) (append-nil (block body)) in
     let size : ℕ = 5 + length body in
-    let behind : drop position bytes ≡ block body ++ drop after bytes =
-    sym (take-append-drop size (drop position bytes)) ∙
-    ap (λ l. l ++ drop size (drop position bytes)) stands.is
-    ∙ ap (λ l. block body ++ l) (drop-drop size position bytes ∙
+    let behind : drop offset bytes ≡ block body ++ drop after bytes =
+    sym (take-append-drop size (drop offset bytes)) ∙
+    ap (λ l. l ++ drop size (drop offset bytes)) stands.is
+    ∙ ap (λ l. block body ++ l) (drop-drop size offset bytes ∙
     ap (λ n. drop n bytes) (omega (arith, after_is))) in
     record {
       blocks = blocks;
@@ -156,10 +156,10 @@ reads_on version bytes body position after kind later stage now next above so_fa
           sym (last_named-append None (records_in so_far.blocks) group) ∙
           ap (last_named None) records;
       reached = subst (λ l. LeadsTo version l (progress_of now above)) records found.4;
-      position_is = omega (
+      offset_is = omega (
         arith,
         after_is,
-        so_far.position_is,
+        so_far.offset_is,
         length-row_add (map spelling so_far.blocks) body,
         ap (λ l. length (row l)) mapped,
       );
@@ -171,7 +171,7 @@ reads_on version bytes body position after kind later stage now next above so_fa
           (stands.fits, tt));
       only = λ others read is.
           let rest = so_far.only others read is in
-          let g = next_group so_far.blocks others bytes body position so_far.position_is read is
+          let g = next_group so_far.blocks others bytes body offset so_far.offset_is read is
           rest.0 rest.1 stands in
           let same : g.0 ≡ group = one_group (last_named None (records_in so_far.blocks)) g.0 group
           g.4 good (g.3 ∙ sym spelled_is) in (
@@ -184,10 +184,10 @@ reads_on version bytes body position after kind later stage now next above so_fa
 -- ---- the image
 
 -- The image has not ended, or it is the first of these blocks.
-abbrev pub HasImageSoFar : (imaging : Bool) → Format → List (List Record) → (position image : ℕ) →
+abbrev pub HasImageSoFar : (imaging : Bool) → Format → List (List Record) → (offset image : ℕ) →
     Type 0
-HasImageSoFar true version blocks position image = image ≡ position
-HasImageSoFar false version blocks position image = IsImagePart version blocks image
+HasImageSoFar true version blocks offset image = image ≡ offset
+HasImageSoFar false version blocks offset image = IsImagePart version blocks image
 
 -- behind the end of an image only records of the journal are read
 stays_journal : (rs : List Record) (n : ℕ) (s : State) (k : ℕ) (stage : Stage) (next : ℕ) →
@@ -263,15 +263,15 @@ ended_at (Stage.Calls x) next n s k is = absurd cc
 ended_at (Stage.Journal x c) next n s k is = refl
 
 image_step : (version : Format) (was now : Bool) (blocks : List (List Record)) (group : List Record)
-    (position after image : ℕ) → after ≡ length (row (map spelling (blocks ++ group ∷ [])))
+    (offset after image : ℕ) → after ≡ length (row (map spelling (blocks ++ group ∷ [])))
     → (was ≡ false → now ≡ false)
     → (was ≡ true → (n : ℕ) (s : State) (k : ℕ) → AreAccepted version (records_in blocks) n s k → ⊥)
     → (now ≡ false →
     (n : ℕ) × (s : State) × (k : ℕ) × AreAccepted version (records_in (blocks ++ group ∷ [])) n s k)
-    → HasImageSoFar was version blocks position image →
+    → HasImageSoFar was version blocks offset image →
     HasImageSoFar now version (blocks ++ group ∷ []) after (image_behind was image after)
-image_step version true true blocks group position after image at stays fresh ended so_far = refl
-image_step version true false blocks group position after image at stays fresh ended so_far =
+image_step version true true blocks group offset after image at stays fresh ended so_far = refl
+image_step version true false blocks group offset after image at stays fresh ended so_far =
     let end = ended refl in record {
       before = blocks;
       last = group;
@@ -284,9 +284,9 @@ image_step version true false blocks group position after image at stays fresh e
       not_before = fresh refl;
       len_is = at;
     }
-image_step version false true blocks group position after image at stays fresh ended so_far =
+image_step version false true blocks group offset after image at stays fresh ended so_far =
     absurd (true≢false (stays refl))
-image_step version false false blocks group position after image at stays fresh ended so_far =
+image_step version false false blocks group offset after image at stays fresh ended so_far =
     record {
       before = so_far.before;
       last = so_far.last;
@@ -302,38 +302,38 @@ image_step version false false blocks group position after image at stays fresh 
     }
 
 -- one block more
-pub image_on : (version : Format) (bytes body : List ℕ) (position after : ℕ)
+pub image_on : (version : Format) (bytes body : List ℕ) (offset after : ℕ)
     (kind later : Option Kind)
     (stage now : Stage) (next above image : ℕ)
-    (so_far : HasRead version bytes position kind stage next)
-    (stands : StandsAt bytes position body) (after_is : after ≡ position + 5 + length body)
+    (so_far : HasRead version bytes offset kind stage next)
+    (stands : StandsAt bytes offset body) (after_is : after ≡ offset + 5 + length body)
     (repeats : ReadsOn kind stage next body later now above)
-    → HasImageSoFar (is_imaging stage) version so_far.blocks position image
+    → HasImageSoFar (is_imaging stage) version so_far.blocks offset image
     → HasImageSoFar (is_imaging now) version
-    (reads_on version bytes body position after kind later stage now next above so_far stands
+    (reads_on version bytes body offset after kind later stage now next above so_far stands
     after_is
     repeats).blocks after (image_behind (is_imaging stage) image after)
 unfolding reads_on
-image_on version bytes body position after kind later stage now next above image so_far stands
+image_on version bytes body offset after kind later stage now next above image so_far stands
     after_is
     repeats has =
     let found = repeats version (records_in so_far.blocks) so_far.reached in
-    let new = reads_on version bytes body position after kind later stage now next above so_far
+    let new = reads_on version bytes body offset after kind later stage now next above so_far
     stands
     after_is repeats in
-    image_step version (is_imaging stage) (is_imaging now) so_far.blocks found.0 position after
+    image_step version (is_imaging stage) (is_imaging now) so_far.blocks found.0 offset after
     image
-    new.position_is
+    new.offset_is
     (stays_ended version (records_in so_far.blocks) found.0 stage now next above so_far.reached
     found.4.leads)
     (λ is. no_image_yet version (records_in so_far.blocks) stage next is so_far.reached)
     (λ is. is_accepted version (records_in (so_far.blocks ++ found.0 ∷ [])) now above new.reached
     is) has
 
-behind_inside : (imaging : Bool) (image position after : ℕ) → image ≤ position → position ≤ after →
+behind_inside : (imaging : Bool) (image offset after : ℕ) → image ≤ offset → offset ≤ after →
     image_behind imaging image after ≤ after
-behind_inside true image position after inside on = omega arith
-behind_inside false image position after inside on = omega (arith, inside, on)
+behind_inside true image offset after inside on = omega arith
+behind_inside false image offset after inside on = omega (arith, inside, on)
 
 -- ---- the first fault
 
@@ -355,19 +355,19 @@ one_body bytes b c p first second =
     first.fits second.fits (sym (split b first) ∙ split c second)).0
 
 -- the first fault, where no block goes on and no end is right
-first_fault : (version : Format) (base : ℕ) (bytes : List ℕ) (position place : ℕ)
+first_fault : (version : Format) (base : ℕ) (bytes : List ℕ) (offset place : ℕ)
     (kind : Option Kind) (stage : Stage)
-    (next : ℕ) → HasRead version bytes position kind stage next → place ≡ base + position
-    → ((group : List Record) → StandsAt bytes position (spelling group) →
+    (next : ℕ) → HasRead version bytes offset kind stage next → place ≡ base + offset
+    → ((group : List Record) → StandsAt bytes offset (spelling group) →
     ReadsNowhere kind stage next (spelling group))
-    → (get_or bytes position 0 ≢ 167 → EndsNowhere stage next) →
+    → (get_or bytes offset 0 ≢ 167 → EndsNowhere stage next) →
     IsFirstFault version base bytes place
-first_fault version base bytes position place kind stage next so_far place_is no_block no_end =
+first_fault version base bytes offset place kind stage next so_far place_is no_block no_end =
     record {
       blocks = so_far.blocks;
       good = so_far.good;
-      position = position;
-      behind = so_far.position_is;
+      offset = offset;
+      behind = so_far.offset_is;
       stood = so_far.stood;
       place_is = place_is;
       begins = (progress_of stage next, so_far.reached.leads);
@@ -382,30 +382,30 @@ first_fault version base bytes position place kind stage next so_far place_is no
 -- ---- refusals
 
 -- a broken gate stands behind no beginning of sound blocks
-pub broken_is_refused : (version : Format) (base size : ℕ) (disk : List ℕ) (position : ℕ)
+pub broken_is_refused : (version : Format) (base size : ℕ) (disk : List ℕ) (offset : ℕ)
     (kind : Option Kind)
-    (stage : Stage) (next : ℕ) → HasRead version (part base size disk) position kind stage next →
-    IsBroken (part base size disk) position
+    (stage : Stage) (next : ℕ) → HasRead version (part base size disk) offset kind stage next →
+    IsBroken (part base size disk) offset
     → (others : List (List Record)) → AreSound version base size disk others → ⊥
-broken_is_refused version base size disk position kind stage next so_far broken others sound =
+broken_is_refused version base size disk offset kind stage next so_far broken others sound =
     let rest = so_far.only others sound.is_read.good sound.is_read.row_is in
     let parts : map spelling others ≡ map spelling so_far.blocks ++ map spelling rest.0 =
     ap (map spelling) rest.1 ∙ map-append spelling so_far.blocks rest.0 in
-    not_broken (map spelling so_far.blocks) (map spelling rest.0) (part base size disk) position
-    so_far.position_is (subst (λ l. IsRow l (part base size disk)) parts sound.is_read.row_is)
+    not_broken (map spelling so_far.blocks) (map spelling rest.0) (part base size disk) offset
+    so_far.offset_is (subst (λ l. IsRow l (part base size disk)) parts sound.is_read.row_is)
     broken
 
 -- a body that is refused is that of no sound block
-pub refused_body : (version : Format) (base size : ℕ) (disk body : List ℕ) (position : ℕ)
+pub refused_body : (version : Format) (base size : ℕ) (disk body : List ℕ) (offset : ℕ)
     (kind : Option Kind)
-    (stage : Stage) (next : ℕ) → HasRead version (part base size disk) position kind stage next →
-    StandsAt (part base size disk) position body
+    (stage : Stage) (next : ℕ) → HasRead version (part base size disk) offset kind stage next →
+    StandsAt (part base size disk) offset body
     → ReadsNowhere kind stage next body → (others : List (List Record)) →
     AreSound version base size disk others → ⊥
-refused_body version base size disk body position kind stage next so_far stands refuses others
+refused_body version base size disk body offset kind stage next so_far stands refuses others
     sound =
     let rest = so_far.only others sound.is_read.good sound.is_read.row_is in
-    let g = next_group so_far.blocks others (part base size disk) body position so_far.position_is
+    let g = next_group so_far.blocks others (part base size disk) body offset so_far.offset_is
     sound.is_read.good sound.is_read.row_is rest.0 rest.1 stands in
     let parts : records_in others ≡ (records_in so_far.blocks ++ g.0) ++ records_in g.1 =
     ap records_in rest.1 ∙ records_in-append so_far.blocks rest.0 ∙
@@ -423,19 +423,19 @@ no_left [] e = refl
 no_left (r ∷ rest) e = absurd cc
 
 -- nor is an end that is refused the end of sound blocks
-pub refused_end : (version : Format) (base size : ℕ) (disk : List ℕ) (position : ℕ)
+pub refused_end : (version : Format) (base size : ℕ) (disk : List ℕ) (offset : ℕ)
     (kind : Option Kind)
-    (stage : Stage) (next : ℕ) → HasRead version (part base size disk) position kind stage next →
-    get_or (part base size disk) position 0 ≢ 167
+    (stage : Stage) (next : ℕ) → HasRead version (part base size disk) offset kind stage next →
+    get_or (part base size disk) offset 0 ≢ 167
     → EndsNowhere stage next → (others : List (List Record)) →
     AreSound version base size disk others → ⊥
-refused_end version base size disk position kind stage next so_far closed refuses others sound =
+refused_end version base size disk offset kind stage next so_far closed refuses others sound =
     let rest = so_far.only others sound.is_read.good sound.is_read.row_is in
     let parts : map spelling others ≡ map spelling so_far.blocks ++ map spelling rest.0 =
     ap (map spelling) rest.1 ∙ map-append spelling so_far.blocks rest.0 in
     let none : rest.0 ≡ [] = no_left rest.0
     (none_is_next (map spelling so_far.blocks) (map spelling rest.0) (part base size disk)
-    position so_far.position_is (subst (λ l. IsRow l (part base size disk)) parts
+    offset so_far.offset_is (subst (λ l. IsRow l (part base size disk)) parts
     sound.is_read.row_is) closed) in
     let same : others ≡ so_far.blocks =
     rest.1 ∙ ap (λ l. so_far.blocks ++ l) none ∙ append-nil so_far.blocks in
@@ -446,14 +446,14 @@ refused_end version base size disk position kind stage next so_far closed refuse
 -- ---- the end
 
 -- all was read where the gate behind it is closed
-pub row_read : (version : Format) (bytes : List ℕ) (position : ℕ) (kind : Option Kind)
+pub row_read : (version : Format) (bytes : List ℕ) (offset : ℕ) (kind : Option Kind)
     (stage : Stage) (next : ℕ)
-    (so_far : HasRead version bytes position kind stage next) → position < length bytes →
-    get_or bytes position 0 ≢ 167 → IsRow (map spelling so_far.blocks) bytes
-row_read version bytes position kind stage next so_far inside closed = record {
-  gate = get_or bytes position 0;
-  rest = drop (position + 1) bytes;
-  is = so_far.stood ∙ at_drop_more (λ l. row (map spelling so_far.blocks) ++ l) bytes position 0
+    (so_far : HasRead version bytes offset kind stage next) → offset < length bytes →
+    get_or bytes offset 0 ≢ 167 → IsRow (map spelling so_far.blocks) bytes
+row_read version bytes offset kind stage next so_far inside closed = record {
+  gate = get_or bytes offset 0;
+  rest = drop (offset + 1) bytes;
+  is = so_far.stood ∙ at_drop_more (λ l. row (map spelling so_far.blocks) ++ l) bytes offset 0
       inside;
   closed = closed;
   all_fit = so_far.bodies;
@@ -481,17 +481,17 @@ pub record IsLoading {D : Type 0} (seen : D → List ℕ) (may_leave : D → Lis
   pub base_is : base_of area ≡ base
   pub size_is : size_of area ≡ size
   pub fine : has_failed area ≡ false
-  pub place_is : place ≡ base + position_of area
+  pub place_is : place ≡ base + offset_of area
   -- what was read
   pub fit : IsFit stage
-  pub few : count_of stage ≤ position_of area
-  pub has_read : is_honest new → HasRead version (part base size (seen old)) (position_of area) kind
+  pub few : count_of stage ≤ offset_of area
+  pub has_read : is_honest new → HasRead version (part base size (seen old)) (offset_of area) kind
       stage
       next
   -- what of it is the image
-  pub inside : image ≤ position_of area
+  pub inside : image ≤ offset_of area
   pub image_is : (true_read : is_honest new) →
-      HasImageSoFar (is_imaging stage) version (has_read true_read).blocks (position_of area) image
+      HasImageSoFar (is_imaging stage) version (has_read true_read).blocks (offset_of area) image
 
 -- before the first block
 pub loading_starts : {D : Type 0} (seen : D → List ℕ) (may_leave : D → List ℕ → Type 0)
@@ -500,7 +500,7 @@ pub loading_starts : {D : Type 0} (seen : D → List ℕ) (may_leave : D → Lis
     (kind : Option Kind)
     (stage : Stage) (next : ℕ)
     → ((c : List ℕ) → left_since disk (moment disk) c → may_leave disk c) → base_of area ≡ base →
-    size_of area ≡ size → position_of area ≡ 0 → has_failed area ≡ false → kind ≡ None →
+    size_of area ≡ size → offset_of area ≡ 0 → has_failed area ≡ false → kind ≡ None →
     stage ≡ Stage.Unread version
     → IsLoading seen may_leave moment left_since is_honest fault_count disk disk version base size
     area kind
@@ -521,16 +521,16 @@ loading_starts seen may_leave moment left_since is_honest fault_count disk versi
       place_is = omega (arith, none);
       fit = subst IsFit (sym unread) tt;
       few = let zero_count : count_of stage ≡ 0 = ap count_of unread in omega (arith, zero_count);
-      has_read = λ true_read. nothing_read version (part base size (seen disk)) (position_of area)
+      has_read = λ true_read. nothing_read version (part base size (seen disk)) (offset_of area)
           kind
           stage
           next none unnamed unread;
       inside = omega arith;
       image_is = λ true_read.
-          let blocks = (nothing_read version (part base size (seen disk)) (position_of area) kind
+          let blocks = (nothing_read version (part base size (seen disk)) (offset_of area) kind
           stage next
           none unnamed unread).blocks in
-          subst (λ s. HasImageSoFar (is_imaging s) version blocks (position_of area) 0) (sym unread)
+          subst (λ s. HasImageSoFar (is_imaging s) version blocks (offset_of area) 0) (sym unread)
           (sym none);
     }
 
@@ -585,7 +585,7 @@ module _ {D : Type 0} {seen : D → List ℕ} {may_leave : D → List ℕ → Ty
       ap (λ n. part base n (seen mid)) l.size_is ∙ ap (part base size) l.reads.same
 
   -- of what was read, where the disk reads true to the end
-  so_far : is_honest new → HasRead version (part base size (seen old)) (position_of area) kind stage
+  so_far : is_honest new → HasRead version (part base size (seen old)) (offset_of area) kind stage
       next
   so_far true_read = l.has_read (honest true_read)
 
@@ -599,12 +599,12 @@ module _ {D : Type 0} {seen : D → List ℕ} {may_leave : D → List ℕ → Ty
       l.fine (rises_before (fault_count old) (fault_count mid) (fault_count new) l.faults
       faults)
       (λ p damage true_read.
-      let broken : IsBroken (part base size (seen old)) (position_of area) =
-      subst (λ b. IsBroken b (position_of area)) bytes_same (damage.broken true_read) in
+      let broken : IsBroken (part base size (seen old)) (offset_of area) =
+      subst (λ b. IsBroken b (offset_of area)) bytes_same (damage.broken true_read) in
       record {
-        fault = first_fault version base (part base size (seen old)) (position_of area) p kind stage
+        fault = first_fault version base (part base size (seen old)) (offset_of area) p kind stage
             next
-            (so_far true_read) (damage.here ∙ ap (λ b. b + position_of area) l.base_is)
+            (so_far true_read) (damage.here ∙ ap (λ b. b + offset_of area) l.base_is)
             (λ group stands v rs other reached good is q run. broken.no_block (spelling group)
             stands)
             (λ closed v rs reached n s count accepted. closed broken.opened);
@@ -614,24 +614,24 @@ module _ {D : Type 0} {seen : D → List ℕ} {may_leave : D → List ℕ → Ty
       answer
 
   pub body_refused : (body : List ℕ) (e : Refusal) →
-      (is_honest new → StandsAt (bytes_of area (seen mid)) (position_of area) body)
+      (is_honest new → StandsAt (bytes_of area (seen mid)) (offset_of area) body)
       → IsDamageOr place (ReadsNowhere kind stage next body) e
       → IsLoadRefusal (Rises (fault_count old) (fault_count new))
       (Spoils (is_honest new) version base size (seen old)) e
   body_refused body e stands damage =
       damage_refusal place _ _ (Spoils (is_honest new) version base size (seen old)) e
       (λ refuses true_read.
-      let stood : StandsAt (part base size (seen old)) (position_of area) body =
-      subst (λ b. StandsAt b (position_of area) body) bytes_same (stands true_read) in
+      let stood : StandsAt (part base size (seen old)) (offset_of area) body =
+      subst (λ b. StandsAt b (offset_of area) body) bytes_same (stands true_read) in
       record {
-        fault = first_fault version base (part base size (seen old)) (position_of area) place kind
+        fault = first_fault version base (part base size (seen old)) (offset_of area) place kind
             stage
             next (so_far true_read) l.place_is
             (λ group there v rs other reached good is q run. refuses v rs other reached good
-            (one_body _ body (spelling group) (position_of area) stood there ∙ is) q run)
+            (one_body _ body (spelling group) (offset_of area) stood there ∙ is) q run)
             (λ closed v rs reached n s count accepted. closed
-            (gate_open _ body (position_of area) stood));
-        unsound = λ blocks sound. refused_body version base size (seen old) body (position_of area)
+            (gate_open _ body (offset_of area) stood));
+        unsound = λ blocks sound. refused_body version base size (seen old) body (offset_of area)
             kind
             stage next (so_far true_read) stood refuses blocks sound;
       })
@@ -639,63 +639,63 @@ module _ {D : Type 0} {seen : D → List ℕ} {may_leave : D → List ℕ → Ty
 
   pub loads_on : (after : Area) (body : List ℕ) (later : Option Kind) (now : Stage)
       (above later_place later_image : ℕ) → (is_honest new →
-      StandsAt (bytes_of area (seen mid)) (position_of area) body)
+      StandsAt (bytes_of area (seen mid)) (offset_of area) body)
       → base_of after ≡ base_of area → size_of after ≡ size_of area → has_failed after ≡ false →
-      position_of after ≡ position_of area + 5 + length body →
+      offset_of after ≡ offset_of area + 5 + length body →
       later_place ≡ place + (5 + length body)
-      → later_image ≡ image_behind (is_imaging stage) image (position_of after)
+      → later_image ≡ image_behind (is_imaging stage) image (offset_of after)
       → ReadsOn kind stage next body later now above → IsFit now →
       count_of now ≤ count_of stage + length body
       → IsLoading seen may_leave moment left_since is_honest fault_count old new version base size
       after
       later now above later_place later_image
   loads_on after body later now above later_place later_image stands base_is size_is fine
-      position_is later_is image_is repeats fit few = record {
+      offset_is later_is image_is repeats fit few = record {
         reads = read_twice seen may_leave moment left_since old mid new l.reads reads;
         honest = λ true_read. l.honest (honest true_read);
         faults = omega (arith, l.faults, faults);
         base_is = base_is ∙ l.base_is;
         size_is = size_is ∙ l.size_is;
         fine = fine;
-        place_is = omega (arith, later_is, l.place_is, position_is);
+        place_is = omega (arith, later_is, l.place_is, offset_is);
         fit = fit;
-        few = omega (arith, few, l.few, position_is);
-        has_read = λ true_read. reads_on version (part base size (seen old)) body (position_of area)
-            (position_of after) kind later stage now next above (l.has_read (honest true_read))
-            (subst (λ b. StandsAt b (position_of area) body) bytes_same (stands true_read))
-            position_is
+        few = omega (arith, few, l.few, offset_is);
+        has_read = λ true_read. reads_on version (part base size (seen old)) body (offset_of area)
+            (offset_of after) kind later stage now next above (l.has_read (honest true_read))
+            (subst (λ b. StandsAt b (offset_of area) body) bytes_same (stands true_read))
+            offset_is
             repeats;
-        inside = rw image_is (behind_inside (is_imaging stage) image (position_of area)
-            (position_of after) l.inside (omega (arith, position_is)));
+        inside = rw image_is (behind_inside (is_imaging stage) image (offset_of area)
+            (offset_of after) l.inside (omega (arith, offset_is)));
         image_is = λ true_read. rw image_is
-            (image_on version (part base size (seen old)) body (position_of area)
-            (position_of after) kind
+            (image_on version (part base size (seen old)) body (offset_of area)
+            (offset_of after) kind
             later stage now next above image (l.has_read (honest true_read))
-            (subst (λ b. StandsAt b (position_of area) body) bytes_same (stands true_read))
-            position_is repeats (l.image_is (honest true_read)));
+            (subst (λ b. StandsAt b (offset_of area) body) bytes_same (stands true_read))
+            offset_is repeats (l.image_is (honest true_read)));
       }
 
   pub end_refused : (found : Option (Vec ℕ Global)) (e : Refusal) →
       ((v : Vec ℕ Global) → found ≡ Some v → ⊥) →
-      (is_honest new → Finds (bytes_of area (seen mid)) (position_of area) (body_in found))
+      (is_honest new → Finds (bytes_of area (seen mid)) (offset_of area) (body_in found))
       → IsDamageOr place (EndsNowhere stage next) e
       → IsLoadRefusal (Rises (fault_count old) (fault_count new))
       (Spoils (is_honest new) version base size (seen old)) e
   end_refused found e none finds damage =
       damage_refusal place _ _ (Spoils (is_honest new) version base size (seen old)) e
       (λ refuses true_read.
-      let closed : get_or (part base size (seen old)) (position_of area) 0 ≢ 167 =
-      subst (λ b. get_or b (position_of area) 0 ≢ 167) bytes_same
-      (closed_gate found (bytes_of area (seen mid)) (position_of area) none
+      let closed : get_or (part base size (seen old)) (offset_of area) 0 ≢ 167 =
+      subst (λ b. get_or b (offset_of area) 0 ≢ 167) bytes_same
+      (closed_gate found (bytes_of area (seen mid)) (offset_of area) none
       (finds true_read)) in
       record {
-        fault = first_fault version base (part base size (seen old)) (position_of area) place kind
+        fault = first_fault version base (part base size (seen old)) (offset_of area) place kind
             stage
             next (so_far true_read) l.place_is
             (λ group there v rs other reached good is q run. closed
-            (gate_open _ (spelling group) (position_of area) there))
+            (gate_open _ (spelling group) (offset_of area) there))
             (λ shut v rs reached n s count accepted. refuses v rs reached n s count accepted);
-        unsound = λ blocks sound. refused_end version base size (seen old) (position_of area) kind
+        unsound = λ blocks sound. refused_end version base size (seen old) (offset_of area) kind
             stage
             next (so_far true_read) closed refuses blocks sound;
       })
@@ -703,48 +703,48 @@ module _ {D : Type 0} {seen : D → List ℕ} {may_leave : D → List ℕ → Ty
 
   pub loads : (after : Area) (found : Option (Vec ℕ Global)) →
       ((v : Vec ℕ Global) → found ≡ Some v → ⊥) →
-      (is_honest new → Finds (bytes_of area (seen mid)) (position_of area) (body_in found))
-      → base + size ≤ length (seen old) → position_of after < size
-      → MatchOption found (position_of after ≡ position_of area)
-      (λ body. position_of after ≡ position_of area + 5 + length body.items)
+      (is_honest new → Finds (bytes_of area (seen mid)) (offset_of area) (body_in found))
+      → base + size ≤ length (seen old) → offset_of after < size
+      → MatchOption found (offset_of after ≡ offset_of area)
+      (λ body. offset_of after ≡ offset_of area + 5 + length body.items)
       → (n : ℕ) (s : State) (count : ℕ) → progress_of stage next ≡ InJournal n s count →
-      is_honest new → IsLoaded version base size (seen old) s n count (position_of after)
-  loads after found none finds inside under position_is n s count journal true_read =
-      let p : position_of after ≡ position_of area =
-      same_place found (position_of area) (position_of after) none position_is in
+      is_honest new → IsLoaded version base size (seen old) s n count (offset_of after)
+  loads after found none finds inside under offset_is n s count journal true_read =
+      let p : offset_of after ≡ offset_of area =
+      same_place found (offset_of area) (offset_of after) none offset_is in
       let read = l.has_read (honest true_read) in
-      let closed : get_or (part base size (seen old)) (position_of area) 0 ≢ 167 =
-      subst (λ x. get_or x (position_of area) 0 ≢ 167) bytes_same
-      (closed_gate found (bytes_of area (seen mid)) (position_of area) none
+      let closed : get_or (part base size (seen old)) (offset_of area) 0 ≢ 167 =
+      subst (λ x. get_or x (offset_of area) 0 ≢ 167) bytes_same
+      (closed_gate found (bytes_of area (seen mid)) (offset_of area) none
       (finds true_read)) in
       record {
         blocks = read.blocks;
         is_read = record {
           good = read.good;
-          row_is = row_read version (part base size (seen old)) (position_of area) kind stage next
+          row_is = row_read version (part base size (seen old)) (offset_of area) kind stage next
               read
               (omega (arith, under, p, length-part base size (seen old) inside)) closed;
           accepted = subst (λ q. Leads Reads (records_in read.blocks) (Unread version) q) journal
               read.reached.leads;
         };
-        position = p ∙ read.position_is;
+        offset = p ∙ read.offset_is;
       }
 
   pub ends_image : (after : Area) (found : Option (Vec ℕ Global)) →
       ((v : Vec ℕ Global) → found ≡ Some v → ⊥) →
-      (is_honest new → Finds (bytes_of area (seen mid)) (position_of area) (body_in found))
-      → base + size ≤ length (seen old) → position_of after < size
-      → MatchOption found (position_of after ≡ position_of area)
-      (λ body. position_of after ≡ position_of area + 5 + length body.items)
+      (is_honest new → Finds (bytes_of area (seen mid)) (offset_of area) (body_in found))
+      → base + size ≤ length (seen old) → offset_of after < size
+      → MatchOption found (offset_of after ≡ offset_of area)
+      (λ body. offset_of after ≡ offset_of area + 5 + length body.items)
       → (n : ℕ) (s : State) (count : ℕ) → progress_of stage next ≡ InJournal n s count →
       is_honest new → StartsWithImage version base size (seen old) image
   unfolding loads
-  ends_image after found none finds inside under position_is n s count journal true_read =
+  ends_image after found none finds inside under offset_is n s count journal true_read =
       let read = l.has_read (honest true_read) in record {
         blocks = read.blocks;
         good = read.good;
-        row_is = (loads after found none finds inside under position_is n s count journal
+        row_is = (loads after found none finds inside under offset_is n s count journal
             true_read).is_read.row_is;
-        image = subst (λ b. HasImageSoFar b version read.blocks (position_of area) image)
+        image = subst (λ b. HasImageSoFar b version read.blocks (offset_of area) image)
             (ended_at stage next n s count journal) (l.image_is (honest true_read));
       }

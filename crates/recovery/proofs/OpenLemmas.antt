@@ -11,33 +11,33 @@ use Rattle.disk_model.specs.Disk.{ReadsOnly, IsAtRest, LeavesOnly}
 use Rattle.disk_model.proofs.Walk.{and_then, reads_rest}
 use Rattle.gate_block.specs.declared.area.Area.{Area}
 use Rattle.gate_block.specs.Row.{row, IsRow, SameOutside, part}
-use Rattle.gate_block.specs.Area.{base_of, size_of, position_of, bytes_of}
+use Rattle.gate_block.specs.Area.{base_of, size_of, offset_of, bytes_of}
 use Rattle.gate_block.proofs.Facts.{row-append}
 use Rattle.gate_block.proofs.Unique.{row_unique}
-use Rattle.record_format.specs.declared.record.Record.{Record}
-use Rattle.record_format.specs.Records.{spelling, IsRecord, AreRecords}
-use Rattle.record_format.specs.Acts.{acts_of}
-use Rattle.record_format.specs.Short.{IsOf}
+use Rattle.records.specs.declared.record.Record.{Record}
+use Rattle.records.specs.Records.{spelling, IsRecord, AreRecords}
+use Rattle.records.specs.Acts.{acts_of}
+use Rattle.records.specs.Short.{IsOf}
 use Rattle.records.specs.Images.{IsImage}
 use Rattle.txn.specs.Books.{BookState}
-use Rattle.repetition.specs.Journals.{Holds, IsHeader, StandsFor, IsJournalRecord, records_in}
+use Rattle.replay.specs.Journals.{Holds, IsHeader, StandsFor, IsJournalRecord, records_in}
 use Rattle.gate_block.specs.Layout.{base_in_use, area_in_use}
-use Rattle.repetition.specs.Steps.{State, Steps, Repeats}
-use Rattle.repetition.specs.Reading.{Unread, InJournal, Reads, AreAccepted, IsSound, last_named}
-use Rattle.repetition.specs.Repetitions.{AreRead}
-use Rattle.undoing.specs.Undoing.{Undo, IsUndoRecord, AreBlocksOf, blocks_len}
-use Rattle.undoing.specs.Appending.{IsAt, HoldsFirst, IsAppended}
+use Rattle.replay.specs.Steps.{State, Steps, Repeats}
+use Rattle.replay.specs.Reading.{Unread, InJournal, Reads, AreAccepted, IsSound, last_named}
+use Rattle.replay.specs.Repetitions.{AreRead}
+use Rattle.replay.specs.Undoing.{Undo, IsUndoRecord, AreBlocksOf, blocks_len}
+use Rattle.replay.specs.Appending.{IsAt, HoldsFirst, IsAppended}
 use Rattle.recovery.specs.Finding.{IsStored}
 use Rattle.recovery.specs.Openings.{IsRead, IsOpened, HasNoRoom, KeepsContent, book_of}
-use Rattle.repetition.proofs.Lists.{leads_append, leads_split, flat_map-append}
+use Rattle.replay.proofs.Lists.{leads_append, leads_split, flat_map-append}
 use Rattle.boosted.proofs.Each.{each_append, each_front, each_back}
-use Rattle.repetition.proofs.Grammar.{records_spelt, same_blocks}
-use Rattle.repetition.proofs.OneFormat.{accepted_holds}
-use Rattle.repetition.proofs.RepeatLemmas.{records_append, read_records}
-use Rattle.repetition.proofs.Parts.{journal_reads}
-use Rattle.repetition.proofs.Contents.{acts_of-append, content_behind}
-use Rattle.undoing.proofs.UndoRecords.{undo_records_read, undo_acts, undo_journal, blocks_hold}
-use Rattle.undoing.proofs.UndoRecords.{in_blocks, rows_len}
+use Rattle.replay.proofs.Grammar.{records_spelt, same_blocks}
+use Rattle.replay.proofs.OneFormat.{accepted_holds}
+use Rattle.replay.proofs.RepeatLemmas.{records_append, read_records}
+use Rattle.replay.proofs.Parts.{journal_reads}
+use Rattle.replay.proofs.Contents.{acts_of-append, content_behind}
+use Rattle.replay.proofs.UndoRecords.{undo_records_read, undo_acts, undo_journal, blocks_hold}
+use Rattle.replay.proofs.UndoRecords.{in_blocks, rows_len}
 
 -- ---- a head that nothing changed
 
@@ -108,7 +108,7 @@ module _ (old : List ℕ) (area : Area) (state : State) (next count : ℕ)
   read = stored.loaded.is_read
 
   pub stands_there : IsAt area old (map spelling blocks)
-  stands_there = record { row_is = read.row_is; position = stored.loaded.position }
+  stands_there = record { row_is = read.row_is; offset = stored.loaded.offset }
 
   pub opens : (after : Area) (new : List ℕ) (book : BookState (List Collection)) →
       IsAppended records area after old new → book ≡ book_of undone next →
@@ -140,11 +140,11 @@ module _ (old : List ℕ) (area : Area) (state : State) (next count : ℕ)
         row_is = subst (λ l. IsRow l (bytes_of after new))
             (sym (map-append spelling blocks appended.written))
             (appended.counts (map spelling blocks) stands_there);
-        position =
+        offset =
             omega (
               arith,
-              appended.position,
-              stored.loaded.position,
+              appended.offset,
+              stored.loaded.offset,
               ap (λ l. length (row l)) (map-append spelling blocks appended.written),
               ap length (row-append (map spelling blocks) (map spelling appended.written)),
               length-append (row (map spelling blocks)) (row (map spelling appended.written)),
@@ -155,7 +155,7 @@ module _ (old : List ℕ) (area : Area) (state : State) (next count : ℕ)
         fine = appended.fine;
       }
 
-  pub has_no_room : size_of area ≤ position_of area + blocks_len (length records) → HasNoRoom old
+  pub has_no_room : size_of area ≤ offset_of area + blocks_len (length records) → HasNoRoom old
   has_no_room over =
       let written = in_blocks records in
       let at : IsRead stored.version (base_in_use (size_of area) old) (size_of area) old blocks next
@@ -180,7 +180,7 @@ module _ (old : List ℕ) (area : Area) (state : State) (next count : ℕ)
             omega (
               arith,
               over,
-              stored.loaded.position,
+              stored.loaded.offset,
               rows_len records written.0 marks written.1,
               ap (λ l. length (row l)) (map-append spelling blocks written.0),
               ap length (row-append (map spelling blocks) (map spelling written.0)),
@@ -401,4 +401,4 @@ nothing_undone old area after state undone next count records book new stored ma
     ap (λ l. length (row (map spelling l))) all ∙ ap (λ l. length (row l)) same in
     let some : length (row (map spelling appended.written)) ≡ blocks_len (length records) =
     rows_len records appended.written marks appended.in_blocks in
-    omega (arith, o.position, long, appended.position, stored.loaded.position, some)
+    omega (arith, o.offset, long, appended.offset, stored.loaded.offset, some)

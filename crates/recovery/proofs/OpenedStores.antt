@@ -10,22 +10,22 @@ use Rattle.gate_block.specs.declared.area.Area.{Area}
 use Rattle.gate_block.specs.Row.{IsRow, part}
 use Rattle.gate_block.specs.Area.{base_of, size_of}
 use Rattle.gate_block.specs.Layout.{base_in_use}
-use Rattle.record_format.specs.declared.record.Record.{Record}
-use Rattle.record_format.specs.Records.{IsRecord, AreRecords, spelling}
-use Rattle.machine.specs.Machines.{resting}
+use Rattle.records.specs.declared.record.Record.{Record}
+use Rattle.records.specs.Records.{IsRecord, AreRecords, spelling}
+use Rattle.steps.specs.Machines.{resting}
 use Rattle.checkpoint.specs.Stored.{AreReadTo}
 use Rattle.checkpoint.specs.DiskHeads.{IsHeaded, IsInUse}
-use Rattle.repetition.specs.Journals.{IsHeader, Holds, StandsFor, records_in}
-use Rattle.repetition.specs.Steps.{State}
-use Rattle.repetition.specs.Reading.{Unread, InJournal, Reads, AreAccepted, IsSound, last_named}
-use Rattle.repetition.specs.Repetitions.{AreRead}
-use Rattle.repetition.proofs.Lists.{leads_append, flat_map-append}
-use Rattle.repetition.proofs.RepeatLemmas.{records_append, read_records}
-use Rattle.repetition.proofs.Parts.{journal_reads}
-use Rattle.repetition.proofs.Contents.{sound_behind, content_behind}
-use Rattle.repetition.proofs.Resting.{at_rest}
-use Rattle.repetition.proofs.OneFormat.{accepted_of, accepted_holds}
-use Rattle.undoing.proofs.UndoRecords.{blocks_hold, undo_acts}
+use Rattle.replay.specs.Journals.{IsHeader, Holds, StandsFor, records_in}
+use Rattle.replay.specs.Steps.{State}
+use Rattle.replay.specs.Reading.{Unread, InJournal, Reads, AreAccepted, IsSound, last_named}
+use Rattle.replay.specs.Repetitions.{AreRead}
+use Rattle.replay.proofs.Lists.{leads_append, flat_map-append}
+use Rattle.replay.proofs.RepeatLemmas.{records_append, read_records}
+use Rattle.replay.proofs.Parts.{journal_reads}
+use Rattle.replay.proofs.Contents.{sound_behind, content_behind}
+use Rattle.replay.proofs.Resting.{at_rest}
+use Rattle.replay.proofs.OneFormat.{accepted_of, accepted_holds}
+use Rattle.replay.proofs.UndoRecords.{blocks_hold, undo_acts}
 use Rattle.txn.specs.Books.{BookState}
 use Rattle.recovery.specs.Openings.{IsOpened, IsReadyStore}
 use Rattle.recovery.proofs.OpenLemmas.{header_same, picks_same, far_off}

@@ -6,16 +6,16 @@ use Rattle.gate_block.specs.Area.{size_of}
 use Rattle.gate_block.specs.Row.{IsRow, part}
 use Rattle.gate_block.specs.Layout.{area_in_use}
 use Rattle.gate_block.proofs.Unique.{row_unique}
-use Rattle.record_format.specs.declared.record.Record.{Record}
-use Rattle.record_format.specs.Records.{spelling}
-use Rattle.record_format.specs.Acts.{acts_of}
+use Rattle.records.specs.declared.record.Record.{Record}
+use Rattle.records.specs.Records.{spelling}
+use Rattle.records.specs.Acts.{acts_of}
 use Rattle.txn.specs.Books.{BookState}
-use Rattle.repetition.specs.Journals.{Holds, StandsFor, records_in}
-use Rattle.repetition.specs.Reading.{IsSound}
-use Rattle.repetition.proofs.Grammar.{same_blocks}
-use Rattle.repetition.proofs.OneFormat.{accepted_holds}
-use Rattle.repetition.proofs.Parts.{IsParts}
-use Rattle.repetition.proofs.Contents.{parts, content, stands_for, only_content}
+use Rattle.replay.specs.Journals.{Holds, StandsFor, records_in}
+use Rattle.replay.specs.Reading.{IsSound}
+use Rattle.replay.proofs.Grammar.{same_blocks}
+use Rattle.replay.proofs.OneFormat.{accepted_holds}
+use Rattle.replay.proofs.Parts.{IsParts}
+use Rattle.replay.proofs.Contents.{parts, content, stands_for, only_content}
 use Rattle.recovery.specs.Openings.{IsOpened}
 use Rattle.recovery.proofs.OpenLemmas.{one_size}
 

@@ -17,22 +17,22 @@ use Rattle.gate_block.specs.declared.area.Area.{Area}
 use Rattle.gate_block.specs.Row.{IsRow, SameOutside, part}
 use Rattle.gate_block.specs.Area.{base_of, size_of, bytes_of, IsReady}
 use Rattle.gate_block.specs.Layout.{area_in_use}
-use Rattle.record_format.specs.declared.record.Record.{Record}
-use Rattle.record_format.specs.Records.{spelling}
-use Rattle.blocks.specs.declared.block.Image.{Image}
-use Rattle.machine.specs.Machines.{resting, IsUpheld}
+use Rattle.records.specs.declared.record.Record.{Record}
+use Rattle.records.specs.Records.{spelling}
+use Rattle.records.specs.declared.block.Image.{Image}
+use Rattle.steps.specs.Machines.{resting, IsUpheld}
 use Rattle.catalog.specs.Holdings.{AreNamed}
 use Rattle.catalog.specs.Making.{names_of, AreDistinct}
 use Rattle.catalog.specs.Meaning.{catalog_meaning, catalog_making}
-use Rattle.record_format.specs.Short.{AreShort}
+use Rattle.records.specs.Short.{AreShort}
 use Rattle.records.specs.Images.{IsImage}
-use Rattle.machine.specs.Sound.{IsSound as IsSoundState}
+use Rattle.steps.specs.Sound.{IsSound as IsSoundState}
 use Rattle.images.specs.Images.{IsPackedImage}
 use Rattle.txn.specs.Books.{BookState}
-use Rattle.repetition.specs.Journals.{IsHeader, StandsFor, records_in}
-use Rattle.repetition.specs.Steps.{State}
-use Rattle.repetition.specs.Reading.{AreAccepted, IsSound}
-use Rattle.repetition.proofs.LagLemmas.{lags_self, lags_format}
+use Rattle.replay.specs.Journals.{IsHeader, StandsFor, records_in}
+use Rattle.replay.specs.Steps.{State}
+use Rattle.replay.specs.Reading.{AreAccepted, IsSound}
+use Rattle.replay.proofs.LagLemmas.{lags_self, lags_format}
 use Rattle.checkpoint.specs.declared.laying.Laying.{Laying}
 use Rattle.checkpoint.specs.declared.stage.Ending.{Ending}
 use Rattle.checkpoint.specs.declared.stage.Stage.{Stage}
@@ -50,7 +50,7 @@ use Rattle.checkpoint.proofs.ReceivedLemmas.{received_starts}
 use Rattle.checkpoint.proofs.GroupLemmas.{whole_bodies}
 use Rattle.recovery.specs.Copies.{IsImageOf}
 use Rattle.recovery.specs.Openings.{IsRead, IsOpened, IsOpenRefusal, KeepsContent, book_of}
-use Rattle.recovery.proofs.ImageNames.{accepted_named, repeats_named}
+use Rattle.replay.proofs.ImageNames.{accepted_named, repeats_named}
 use Rattle.recovery.proofs.CopyLemmas.{rested_image, image_accepted, all_later, too_large}
 use Rattle.recovery.proofs.CopyLemmas.{sound as image_sound, stands as image_stands}
 use Rattle.recovery.proofs.OpenedStores.{are_read, in_use, was_there}
@@ -413,7 +413,7 @@ module _ {D : Type 0} (g : Ghosts D) (disk : D) (old : List ℕ) (m : State) (n 
         at_rest = rest;
         ready = λ p. record {
           holds = p.row_is;
-          position = p.position;
+          offset = p.offset;
           at_rest = λ c left. ap (bytes_of area) (rest c left);
         };
       })))

@@ -10,17 +10,17 @@ use Rattle.calls.specs.Contents.{Collection}
 use Rattle.gate_block.specs.Row.{row, IsRow, part}
 use Rattle.gate_block.specs.Layout.{base_in_use}
 use Rattle.gate_block.specs.Layout.{areas_at, root_at}
-use Rattle.record_format.specs.declared.record.Record.{Record}
-use Rattle.record_format.specs.Records.{spelling, AreRecords}
+use Rattle.records.specs.declared.record.Record.{Record}
+use Rattle.records.specs.Records.{spelling, AreRecords}
 use Rattle.records.specs.Images.{IsImage}
-use Rattle.machine.specs.Machines.{resting}
-use Rattle.blocks.specs.Drafts.{ArePacked}
-use Rattle.blocks.specs.Packings.{AreWhole}
-use Rattle.repetition.specs.Journals.{IsHeader, StandsFor, records_in}
-use Rattle.repetition.specs.Steps.{State}
-use Rattle.repetition.specs.Reading.{IsSound, AreAccepted}
-use Rattle.undoing.specs.Undoing.{Undo, IsUndoRecord}
-use Rattle.recovery.specs.Formats.{IsHeadOf}
+use Rattle.steps.specs.Machines.{resting}
+use Rattle.records.specs.Drafts.{ArePacked}
+use Rattle.records.specs.Packings.{AreWhole}
+use Rattle.replay.specs.Journals.{IsHeader, StandsFor, records_in}
+use Rattle.replay.specs.Steps.{State}
+use Rattle.replay.specs.Reading.{IsSound, AreAccepted}
+use Rattle.replay.specs.Undoing.{Undo, IsUndoRecord}
+use Rattle.recovery.specs.Formatting.{IsHeadOf}
 use Rattle.recovery.specs.Openings.{IsRead, IsOpenRefusal}
 
 -- ---- bytes that are written

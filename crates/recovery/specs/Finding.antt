@@ -5,14 +5,14 @@ use Rattle.std.specs.List.{AllByRecursion}
 use Rattle.calls.specs.declared.format.Format.{Format}
 use Rattle.calls.specs.Formats.{max_area, widest}
 use Rattle.gate_block.specs.declared.area.Area.{Area}
-use Rattle.gate_block.specs.Area.{base_of, size_of, position_of, has_failed}
-use Rattle.record_format.specs.declared.record.Record.{Record}
+use Rattle.gate_block.specs.Area.{base_of, size_of, offset_of, has_failed}
+use Rattle.records.specs.declared.record.Record.{Record}
 use Rattle.checkpoint.specs.Keepers.{IsOneOfTwo}
 use Rattle.recovery.specs.declared.report.Report.{Report}
-use Rattle.repetition.specs.Journals.{IsHeader}
+use Rattle.replay.specs.Journals.{IsHeader}
 use Rattle.gate_block.specs.Layout.{base_in_use}
-use Rattle.repetition.specs.Steps.{State}
-use Rattle.undoing.specs.Undoing.{Undo, IsUndoRecord}
+use Rattle.replay.specs.Steps.{State}
+use Rattle.replay.specs.Undoing.{Undo, IsUndoRecord}
 use Rattle.recovery.specs.Loading.{IsLoaded}
 
 -- The head picks the area, and that holds what leads to the state.
@@ -21,7 +21,7 @@ pub record IsStored (bytes : List ℕ) (area : Area) (state : State) (next count
   pub header : IsHeader version (size_of area) bytes
   pub picks : base_of area ≡ base_in_use (size_of area) bytes
   pub loaded : IsLoaded version (base_of area) (size_of area) bytes state next count
-      (position_of area)
+      (offset_of area)
 
 -- The area is one of the two of a disk of so many bytes, has not failed, and has so much room
 -- behind its next gate.
@@ -29,7 +29,7 @@ pub record IsPlaced (area : Area) (bytes room : ℕ) : Type 0 where
   pub fine : has_failed area ≡ false
   pub one : IsOneOfTwo area bytes
   pub small : size_of area ≤ max_area widest
-  pub behind : room + position_of area ≡ size_of area
+  pub behind : room + offset_of area ≡ size_of area
 
 -- From a state that stands there, where the disk read true, the records of the undoing lead to the
 -- machine's; the report tells of that state.

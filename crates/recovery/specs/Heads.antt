@@ -7,7 +7,7 @@ use Rattle.calls.specs.declared.format.Format.{Format}
 use Rattle.calls.specs.declared.refusal.Refusal.{Refusal}
 use Rattle.calls.specs.Formats.{max_area}
 use Rattle.calls.specs.Limits.{min_area}
-use Rattle.repetition.specs.Journals.{letters_of, IsHeader}
+use Rattle.replay.specs.Journals.{letters_of, IsHeader}
 
 -- The first 17 bytes of a store of this version that has so many bytes, with areas of this size.
 pub record IsHead (version : Format) (size : ℕ) (head : List ℕ) (bytes : ℕ) : Type 0 where

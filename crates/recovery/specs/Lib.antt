@@ -1,5 +1,5 @@
 pub mod Heads
-pub mod Formats
+pub mod Formatting
 pub mod Openings
 pub mod Loading
 pub mod Finding

@@ -2,15 +2,15 @@
 use Rattle.std.specs.Prelude.{◌≡◌, ℕ, List, [], ◌∷◌, ◌++◌, length, map, Bool, true, false, None}
 use Rattle.gate_block.specs.Row.{row, IsRow, part}
 use Rattle.calls.specs.declared.format.Format.{Format}
-use Rattle.record_format.specs.declared.record.Record.{Record}
-use Rattle.record_format.specs.Records.{spelling, AreRecords}
-use Rattle.repetition.specs.declared.stage.Stage.{Stage}
-use Rattle.repetition.specs.Journals.{IsHeader, records_in}
-use Rattle.repetition.specs.Reading.{AreAccepted}
-use Rattle.repetition.specs.Steps.{State}
+use Rattle.records.specs.declared.record.Record.{Record}
+use Rattle.records.specs.Records.{spelling, AreRecords}
+use Rattle.replay.specs.declared.stage.Stage.{Stage}
+use Rattle.replay.specs.Journals.{IsHeader, records_in}
+use Rattle.replay.specs.Reading.{AreAccepted}
+use Rattle.replay.specs.Steps.{State}
 use Rattle.recovery.specs.Openings.{IsRead}
 
--- The area of a disk of this version is a row of blocks up to this position, of an image and a
+-- The area of a disk of this version is a row of blocks up to this offset, of an image and a
 -- journal of so many records, which lead to the state; the number is above every number that they
 -- enter.
 pub record IsLoaded (version : Format) (base size : ℕ) (bytes : List ℕ) (state : State)
@@ -18,7 +18,7 @@ pub record IsLoaded (version : Format) (base size : ℕ) (bytes : List ℕ) (sta
     0 where
   pub blocks : List (List Record)
   pub is_read : IsRead version base size bytes blocks next state count
-  pub position : place ≡ length (row (map spelling blocks))
+  pub offset : place ≡ length (row (map spelling blocks))
 
 -- ---- the image in front of the journal
 
@@ -28,9 +28,9 @@ is_imaging (Stage.Journal s count) = false
 is_imaging other = true
 
 -- where the image ends behind one more block: there, where it had not ended before that block
-abbrev pub image_behind : (imaging : Bool) → (end position : ℕ) → ℕ
-image_behind true end position = position
-image_behind false end position = end
+abbrev pub image_behind : (imaging : Bool) → (end offset : ℕ) → ℕ
+image_behind true end offset = offset
+image_behind false end offset = end
 
 -- The image takes the first of the blocks, so many bytes: it ends behind the first block behind
 -- which the records are accepted, the one that has the record of its end. What stands behind that

@@ -10,18 +10,18 @@ use Rattle.calls.specs.Transactions.{Leads}
 use Rattle.disk_model.specs.Disk.{IsAtRest, LeavesOnly}
 use Rattle.gate_block.specs.declared.area.Area.{Area}
 use Rattle.gate_block.specs.Row.{row, IsRow, StandsAt, SameOutside, part}
-use Rattle.gate_block.specs.Area.{base_of, size_of, position_of, has_failed, IsReady}
-use Rattle.record_format.specs.declared.record.Record.{Record}
-use Rattle.record_format.specs.Records.{spelling, AreRecords}
+use Rattle.gate_block.specs.Area.{base_of, size_of, offset_of, has_failed, IsReady}
+use Rattle.records.specs.declared.record.Record.{Record}
+use Rattle.records.specs.Records.{spelling, AreRecords}
 use Rattle.txn.specs.Books.{BookState, opened}
 use Rattle.recovery.specs.declared.report.Report.{Report}
-use Rattle.repetition.specs.Journals.{IsHeader, StandsFor, records_in}
+use Rattle.replay.specs.Journals.{IsHeader, StandsFor, records_in}
 use Rattle.gate_block.specs.Layout.{base_in_use, area_in_use}
 use Rattle.gate_block.specs.Row.{open_gate}
-use Rattle.repetition.specs.Steps.{State}
-use Rattle.repetition.specs.Reading.{Progress, Unread, Reads, last_named, AreAccepted, IsSound}
-use Rattle.repetition.specs.Repetitions.{AreRead}
-use Rattle.undoing.specs.Undoing.{Undo, IsUndoRecord, AreBlocksOf}
+use Rattle.replay.specs.Steps.{State}
+use Rattle.replay.specs.Reading.{Progress, Unread, Reads, last_named, AreAccepted, IsSound}
+use Rattle.replay.specs.Repetitions.{AreRead}
+use Rattle.replay.specs.Undoing.{Undo, IsUndoRecord, AreBlocksOf}
 
 -- The area of a disk of this version is a row of these blocks, of an image and a journal of so many
 -- records, which lead to the state; the number is above every number that they enter.
@@ -46,15 +46,15 @@ pub record AreSound (version : Format) (base size : ℕ) (bytes : List ℕ)
 pub record IsFirstFault (version : Format) (base : ℕ) (area : List ℕ) (place : ℕ) : Type 0 where
   pub blocks : List (List Record)
   pub good : AreRecords None (records_in blocks)
-  pub position : ℕ
-  pub behind : position ≡ length (row (map spelling blocks))
-  pub stood : area ≡ row (map spelling blocks) ++ drop position area
-  pub place_is : place ≡ base + position
+  pub offset : ℕ
+  pub behind : offset ≡ length (row (map spelling blocks))
+  pub stood : area ≡ row (map spelling blocks) ++ drop offset area
+  pub place_is : place ≡ base + offset
   pub begins : (p : Progress) × Leads Reads (records_in blocks) (Unread version) p
   pub no_block : (group : List Record) → AreRecords (last_named None (records_in blocks)) group →
-      StandsAt area position (spelling group) → (p : Progress) →
+      StandsAt area offset (spelling group) → (p : Progress) →
       Leads Reads (records_in blocks ++ group) (Unread version) p → ⊥
-  pub no_end : get_or area position 0 ≢ open_gate → (next : ℕ) (s : State) (count : ℕ) →
+  pub no_end : get_or area offset 0 ≢ open_gate → (next : ℕ) (s : State) (count : ℕ) →
       AreAccepted version (records_in blocks) next s count → ⊥
 
 -- Why an area could not be loaded: for want of memory, for a counted fault, or for damage at the
@@ -109,7 +109,7 @@ pub record IsOpened (old : List ℕ) (book : BookState (List Collection)) (area 
   pub in_blocks : AreBlocksOf undoing written
   pub read_too : AllByRecursion AreRead written
   pub row_is : IsRow (map spelling (blocks ++ written)) (part (base_of area) (size_of area) new)
-  pub position : position_of area ≡ length (row (map spelling (blocks ++ written)))
+  pub offset : offset_of area ≡ length (row (map spelling (blocks ++ written)))
   -- what else the area and the disk are
   pub elsewhere : SameOutside (base_of area) (size_of area) old new
   pub unwritten : written ≡ [] → new ≡ old

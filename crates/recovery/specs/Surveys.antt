@@ -3,13 +3,13 @@ use Rattle.std.specs.Prelude.{◌≡◌, ◌↔◌, ℕ, ◌+◌, ◌-◌, ◌^�
 use Rattle.std.specs.declared.alloc.Global.{Global}
 use Rattle.gate_block.specs.declared.area.Area.{Area}
 use Rattle.gate_block.specs.Row.{row}
-use Rattle.gate_block.specs.Area.{base_of, size_of, position_of}
+use Rattle.gate_block.specs.Area.{base_of, size_of, offset_of}
 use Rattle.gate_block.specs.Layout.{areas_at}
-use Rattle.record_format.specs.declared.record.Record.{Record}
+use Rattle.records.specs.declared.record.Record.{Record}
 use Rattle.images.specs.Images.{IsPackedImage}
 use Rattle.checkpoint.specs.Imaging.{bodies_of}
-use Rattle.repetition.specs.Steps.{State}
-use Rattle.undoing.specs.Undoing.{blocks_len}
+use Rattle.replay.specs.Steps.{State}
+use Rattle.replay.specs.Undoing.{blocks_len}
 use Rattle.recovery.specs.declared.report.Report.{Report}
 use Rattle.recovery.specs.declared.report.Survey.{Survey}
 
@@ -32,7 +32,7 @@ pub record IsSurvey (area : Area) (undone : State) (next : ℕ) (undoing : List 
   pub format : survey.format ≡ undone.format
   pub area_is : survey.area ≡ size_of area
   pub first : IsTrue survey.first ↔ (base_of area ≡ areas_at)
-  pub used : survey.used ≡ position_of area + 1
+  pub used : survey.used ≡ offset_of area + 1
   pub image_is : survey.image ≡ image
   pub journal : survey.image + survey.journal + 1 ≡ survey.used
   pub checkpoint : IsImageLen next undone survey.checkpoint

@@ -5,16 +5,16 @@ use Rattle.calls.specs.Contents.{Collection}
 use Rattle.disk_model.specs.Disk.{Torn, IsAtRest, LeavesOnly}
 use Rattle.disk_model.specs.declared.disk.Disk.{Ghosts}
 use Rattle.calls.specs.declared.refusal.Refusal.{Refusal}
-use Rattle.record_format.specs.declared.record.Record.{Record}
-use Rattle.record_format.specs.Records.{spelling}
-use Rattle.blocks.specs.declared.block.Image.{Image}
-use Rattle.blocks.specs.Packings.{AreWhole}
+use Rattle.records.specs.declared.record.Record.{Record}
+use Rattle.records.specs.Records.{spelling}
+use Rattle.records.specs.declared.block.Image.{Image}
+use Rattle.records.specs.Packings.{AreWhole}
 use Rattle.checkpoint.specs.declared.laying.Laying.{Laying}
 use Rattle.checkpoint.specs.Stored.{StandIn}
 use Rattle.checkpoint.specs.Imaging.{IsOther, HasPlainRoot}
-use Rattle.repetition.specs.Journals.{IsHeader, StandsFor}
-use Rattle.repetition.specs.Steps.{State}
-use Rattle.repetition.specs.Reading.{IsSound}
+use Rattle.replay.specs.Journals.{IsHeader, StandsFor}
+use Rattle.replay.specs.Steps.{State}
+use Rattle.replay.specs.Reading.{IsSound}
 use Rattle.checkpoint.specs.Keepers.{KeeperState}
 use Rattle.checkpoint.specs.Keeping.{BegunImage, HasReceived}
 use Rattle.gate_block.specs.declared.area.Area.{Area}

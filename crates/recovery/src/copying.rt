@@ -5,23 +5,23 @@ ghost use Rattle.calls.specs.declared.format.Format.{Format};
 ghost use Rattle.calls.specs.declared.refusal.Refusal.{Refusal};
 ghost use Rattle.disk_model.specs.Disk.{LeavesOnly, ReadsOnly, Rises, HasCause, IsAtRest};
 ghost use Rattle.gate_block.specs.Row.{row, IsRow, part};
-ghost use Rattle.gate_block.specs.Area.{base_of, size_of, position_of, has_failed};
+ghost use Rattle.gate_block.specs.Area.{base_of, size_of, offset_of, has_failed};
 ghost use Rattle.gate_block.specs.Layout.{areas_at};
 ghost use Rattle.checkpoint.specs.Imaging.{IsTooLong, IsBeingLaid, bodies_of, left_of};
 ghost use Rattle.recovery.specs.Heads.{HasHeader, HasNoHeader};
 ghost use Rattle.recovery.specs.Openings.{IsDamagedAt};
-ghost use Rattle.recovery.specs.Formats.{IsRoomFor, IsMaking, IsShut};
+ghost use Rattle.recovery.specs.Formatting.{IsRoomFor, IsMaking, IsShut};
 ghost use Rattle.recovery.specs.Copies.{IsFilledWith, IsStoreOf, IsCopyOf};
 ghost use Rattle.recovery.specs.Copies.{IsTooLarge, IsCopyAnswer};
 
 use crate::formatting::{is_room_for, write_head};
 use crate::settling::settled_image;
-use blocks::Image;
 use calls::{Format, Refusal};
 use checkpoint::{Laying, is_too_long};
 use disk_model::{Disk, Fault, write_and_sync};
 use gate_block::Area;
 use gate_block::layout::{AREAS_AT, GATE_AT, OPEN};
+use records::Image;
 use std::alloc::Global;
 
 /// Copies the store on a disk to another one, with two areas of so many bytes. The old disk is read
@@ -133,7 +133,7 @@ fn fill_with<D: Disk>(disk: &mut D, version: Format, area: u64, image: Image) ->
 fn lay_all<D: Disk>(disk: &mut D, mut laying: Laying) -> Result<(), Fault>
     requires behind { areas_at ≤ base_of laying.area }
     requires fine { has_failed laying.area ≡ false }
-    requires room { position_of laying.area + length (row (bodies_of (left_of laying))) <
+    requires room { offset_of laying.area + length (row (bodies_of (left_of laying))) <
         size_of laying.area }
     requires inside { base_of laying.area + size_of laying.area ≤ length (D.seen disk.old) }
     ensures laid { (bodies : List (List ℕ)) → bodies ≢ [] →

@@ -2,7 +2,7 @@
 ghost use Rattle.std.specs.Prelude.{◌≡◌, ◌≤◌, ◌+◌, IfOk, IfErr, IsOkUnless};
 ghost use Rattle.calls.specs.Limits.{number_end};
 ghost use Rattle.disk_model.specs.Disk.{ReadsOnly, Rises};
-ghost use Rattle.gate_block.specs.Area.{base_of, size_of, position_of};
+ghost use Rattle.gate_block.specs.Area.{base_of, size_of, offset_of};
 ghost use Rattle.calls.specs.declared.refusal.Refusal.{Refusal};
 ghost use Rattle.recovery.specs.Heads.{HasHeader, HasNoHeader};
 ghost use Rattle.recovery.specs.Openings.{IsDamagedAt, IsFindRefusal};
@@ -19,11 +19,9 @@ use catalog::Catalog;
 use disk_model::Disk;
 use gate_block::Area;
 use gate_block::layout::AREAS_AT;
-use machine::Machine;
 use records::Record;
-use repetition::Repeated;
+use replay::{Machine, Repeated, blocks_len, undo_all};
 use std::alloc::Global;
-use undoing::{blocks_len, undo_all};
 
 /// A store as it was found. Its losers are undone in memory, and the records of that are still to
 /// be written.
@@ -40,7 +38,7 @@ pub struct Found {
     pub records: Vec<Record>,
     pub report: Report,
     ghost bound: { (1 ≤ next) × (next ≤ number_end) },
-    ghost inside: { image ≤ position_of area },
+    ghost inside: { image ≤ offset_of area },
 }
 
 impl Found {
@@ -61,14 +59,14 @@ impl Found {
     {
         let checkpoint = image_of(alloc, &self.machine, self.next)?;
         let size = self.area.size();
-        let position = size - self.area.room();
+        let offset = size - self.area.room();
         Ok(Survey {
             format: self.machine.format(),
             area: size,
             first: self.area.base() == AREAS_AT,
-            used: position + 1,
+            used: offset + 1,
             image: self.image,
-            journal: position - self.image,
+            journal: offset - self.image,
             checkpoint: image_len(&checkpoint),
             undoing: blocks_len(self.records.len() as u64),
             next: self.next,

@@ -5,8 +5,9 @@ ghost use Rattle.gate_block.specs.Layout.{areas_at};
 ghost use Rattle.calls.specs.declared.format.Format.{Format};
 ghost use Rattle.calls.specs.Formats.{number_of};
 ghost use Rattle.disk_model.specs.Disk.{LeavesOnly, Rises, HasCause, IsAtRest};
-ghost use Rattle.recovery.specs.Formats.{IsRoomFor, IsRoomAs, IsFormatAnswer, IsHeadOf, IsFilled};
-ghost use Rattle.recovery.specs.Formats.{empty_area, IsEmptyStore, IsFormatting, IsShut};
+ghost use Rattle.recovery.specs.Formatting.{IsRoomFor, IsRoomAs, IsFormatAnswer, IsHeadOf};
+ghost use Rattle.recovery.specs.Formatting.{IsFilled};
+ghost use Rattle.recovery.specs.Formatting.{empty_area, IsEmptyStore, IsFormatting, IsShut};
 
 use crate::head::{is_size, letters};
 use calls::{Format, Refusal};

@@ -5,12 +5,12 @@ ghost use Rattle.calls.specs.declared.format.Format.{Format};
 ghost use Rattle.calls.specs.Formats.{max_area, widest};
 ghost use Rattle.calls.specs.Limits.{min_area};
 ghost use Rattle.disk_model.specs.Disk.{ReadsOnly, Rises};
-ghost use Rattle.repetition.specs.Journals.{letters_of, IsHeader};
+ghost use Rattle.replay.specs.Journals.{letters_of, IsHeader};
 ghost use Rattle.gate_block.specs.Layout.{base_in_use};
 ghost use Rattle.gate_block.specs.Layout.{gate_at, areas_at};
 ghost use Rattle.gate_block.specs.Row.{open_gate};
 ghost use Rattle.recovery.specs.Heads.{IsHead, IsHeadRefusal, HasNoHeader};
-ghost use Rattle.recovery.specs.Formats.{IsRoomFor};
+ghost use Rattle.recovery.specs.Formatting.{IsRoomFor};
 
 use byteorder::{BigEndian, ByteOrder};
 use calls::limits::MIN_AREA;

@@ -16,9 +16,9 @@ use std::alloc::Global;
 /// the losers in memory, and writes nothing. It takes as much memory as an opening.
 ///
 /// Refused NotAStore, where the disk read true only if it has no head of a store; Fault where the
-/// disk failed; Damaged with the position of the gate of the block in which the first damage
-/// stands, where the disk read true only if the bytes are not sound; NoMemory, where the disk read
-/// true only if it has a head of a store.
+/// disk failed; Damaged with the offset of the gate of the block in which the first damage stands,
+/// where the disk read true only if the bytes are not sound; NoMemory, where the disk read true
+/// only if it has a head of a store.
 pub fn inspect<D: Disk>(alloc: Global, disk: &mut D) -> Result<Report, Refusal>
     ensures report { IfOk result (λ report. D.is_honest disk.new →
         IsReport (D.seen disk.old) report) }

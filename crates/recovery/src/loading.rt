@@ -2,14 +2,14 @@
 ghost use Rattle.std.specs.Prelude.{◌≡◌, ◌≤◌, ◌<◌, ◌+◌, ◌^◌, length, IfOk, IfErr, false};
 ghost use Rattle.calls.specs.declared.format.Format.{Format};
 ghost use Rattle.disk_model.specs.Disk.{ReadsOnly, Rises};
-ghost use Rattle.gate_block.specs.Area.{base_of, size_of, position_of, has_failed};
+ghost use Rattle.gate_block.specs.Area.{base_of, size_of, offset_of, has_failed};
 ghost use Rattle.recovery.specs.Openings.{IsLoadRefusal, IsSpoilt};
 ghost use Rattle.recovery.specs.Loading.{IsLoaded, StartsWithImage, is_imaging, image_behind};
 
 use calls::{Format, Refusal};
 use disk_model::Disk;
 use gate_block::{Area, BLOCK_HEAD};
-use repetition::{Repeated, Repetition, Stage};
+use replay::{Repeated, Repetition, Stage};
 use std::alloc::Global;
 
 /// An area whose blocks were read, and what their records lead to.
@@ -25,7 +25,7 @@ pub struct Loaded {
 
 /// Reads the records of all blocks of an area of a disk of this version, one block at a time.
 ///
-/// Refused NoMemory, Fault where the disk failed, and Damaged with the position of the gate of the
+/// Refused NoMemory, Fault where the disk failed, and Damaged with the offset of the gate of the
 /// block in which the first damage stands.
 pub fn load<D: Disk>(
     alloc: Global,
@@ -40,13 +40,13 @@ pub fn load<D: Disk>(
     ensures loaded { IfOk result (λ x. D.is_honest disk.new →
         IsLoaded version base size (D.seen disk.old) x.repeated.machine x.repeated.next
         x.repeated.count
-        (position_of x.area)) }
+        (offset_of x.area)) }
     ensures area { IfOk result (λ x. (base_of x.area ≡ base) × (size_of x.area ≡ size) ×
         (has_failed x.area ≡ false)) }
-    ensures place { IfOk result (λ x. x.place ≡ base + position_of x.area) }
+    ensures place { IfOk result (λ x. x.place ≡ base + offset_of x.area) }
     ensures image { IfOk result (λ x. D.is_honest disk.new →
         StartsWithImage version base size (D.seen disk.old) x.image) }
-    ensures inside { IfOk result (λ x. x.image ≤ position_of x.area) }
+    ensures inside { IfOk result (λ x. x.image ≤ offset_of x.area) }
     ensures refused { IfErr result (IsLoadRefusal
         (Rises (D.fault_count disk.old) (D.fault_count disk.new))
         (λ place. D.is_honest disk.new → IsSpoilt version base size (D.seen disk.old) place)) }
@@ -90,8 +90,8 @@ fn is_imaging(stage: &Stage) -> bool
 }
 
 // Where the image ends behind one more block: there, where it had not ended before that block.
-fn image_behind(imaging: bool, end: u64, position: u64) -> u64
-    ensures { result ≡ image_behind imaging end position }
+fn image_behind(imaging: bool, end: u64, offset: u64) -> u64
+    ensures { result ≡ image_behind imaging end offset }
 {
-    if imaging { position } else { end }
+    if imaging { offset } else { end }
 }

@@ -8,10 +8,10 @@ ghost use Rattle.calls.specs.Limits.{number_end};
 ghost use Rattle.disk_model.specs.Disk.{ReadsOnly, Rises, IsAtRest};
 ghost use Rattle.gate_block.specs.Area.{has_failed};
 ghost use Rattle.checkpoint.specs.Keepers.{IsOneOfTwo, IsFresh};
-ghost use Rattle.repetition.specs.Journals.{StandsFor};
+ghost use Rattle.replay.specs.Journals.{StandsFor};
 ghost use Rattle.txn.specs.Books.{opened};
 ghost use Rattle.recovery.specs.Heads.{HasHeader, HasNoHeader};
-ghost use Rattle.undoing.specs.Undoing.{blocks_len};
+ghost use Rattle.replay.specs.Undoing.{blocks_len};
 ghost use Rattle.recovery.specs.Openings.{IsOpened, IsDamagedAt, HasNoRoom, IsReadyStore};
 ghost use Rattle.recovery.specs.Openings.{IsOpenRefusal, KeepsContent, book_of};
 
@@ -21,10 +21,9 @@ use catalog::Catalog;
 use checkpoint::Keeper;
 use disk_model::Disk;
 use gate_block::Area;
-use machine::Machine;
+use replay::{Machine, append_all, blocks_len, make_room};
 use std::alloc::Global;
 use txn::Book;
-use undoing::{append_all, blocks_len, make_room};
 
 // Whether so many records of an undoing fit, in blocks, in so many bytes, with a gate behind them.
 fn fits(room: u64, count: usize) -> bool
@@ -36,7 +35,7 @@ fn fits(room: u64, count: usize) -> bool
 
 /// A store whose losers are undone, in memory and on its disk.
 #[derive(Drop)]
-pub(crate) struct Settled {
+pub(crate) struct Recovered {
     pub machine: Machine<Catalog>,
     /// A number above every number that was entered.
     pub next: u64,
@@ -45,7 +44,7 @@ pub(crate) struct Settled {
 }
 
 /// Undoes the losers of the store on a disk, and writes the records of that, as `open` says.
-pub(crate) fn settle<D: Disk>(alloc: Global, disk: &mut D) -> Result<Settled, Refusal>
+pub(crate) fn recover<D: Disk>(alloc: Global, disk: &mut D) -> Result<Recovered, Refusal>
     // What it answers, of a disk that read true.
     ensures opened { IfOk result (λ x. D.is_honest disk.new →
         IsOpened (D.seen disk.old) (book_of x.machine x.next) x.area (D.seen disk.new)) }
@@ -93,7 +92,7 @@ pub(crate) fn settle<D: Disk>(alloc: Global, disk: &mut D) -> Result<Settled, Re
     }
     let buffer = make_room(alloc)?;
     append_all(disk, &mut area, records.as_slice(), buffer)?;
-    Ok(Settled {
+    Ok(Recovered {
         machine,
         next,
         area,
@@ -123,11 +122,10 @@ fn book_of(alloc: Global, machine: Machine<Catalog>, next: u64) -> Book<Catalog>
 /// the needs and live calls that stand then.
 ///
 /// Refused NotAStore, where the disk read true only if it has no head of a store; Fault where the
-/// disk failed; Damaged with the position of the gate of the block in which the first damage
-/// stands, where the disk read true only if the bytes are not sound; NoMemory, where the disk read
-/// true only if it has a head of a store; Full, where the disk read true only if the records of the
-/// undoing do not fit. All but Fault come with nothing
-/// written. A refusal hands the disk back.
+/// disk failed; Damaged with the offset of the gate of the block in which the first damage stands,
+/// where the disk read true only if the bytes are not sound; NoMemory, where the disk read true
+/// only if it has a head of a store; Full, where the disk read true only if the records of the
+/// undoing do not fit. All but Fault come with nothing written. A refusal hands the disk back.
 pub fn open<D: Disk>(alloc: Global, disk: D) -> Result<(Book<Catalog>, Keeper<D>), (Refusal, D)>
     // What it answers, of a disk that read true.
     ensures opened { IfOk result (λ x. D.is_honest x.1.disk →
@@ -166,9 +164,9 @@ pub fn open<D: Disk>(alloc: Global, disk: D) -> Result<(Book<Catalog>, Keeper<D>
     ensures size_in_refusal { IfErr result (λ x. length (D.seen x.1) ≡ length (D.seen disk)) }
 {
     let mut disk = disk;
-    match settle(alloc, &mut disk) {
+    match recover(alloc, &mut disk) {
         Ok(
-            Settled {
+            Recovered {
                 machine,
                 next,
                 area,

@@ -5,7 +5,7 @@ ghost use Rattle.calls.specs.Formats.{max_area, Allows};
 ghost use Rattle.calls.specs.Formats.{widest};
 ghost use Rattle.calls.specs.Limits.{number_end};
 ghost use Rattle.disk_model.specs.Disk.{ReadsOnly, Rises};
-ghost use Rattle.machine.specs.Machines.{resting};
+ghost use Rattle.steps.specs.Machines.{resting};
 ghost use Rattle.images.specs.Images.{IsPackedImage};
 ghost use Rattle.recovery.specs.Heads.{HasHeader, HasNoHeader};
 ghost use Rattle.recovery.specs.Openings.{IsDamagedAt, IsFindRefusal};
@@ -13,12 +13,12 @@ ghost use Rattle.recovery.specs.Copies.{SpellsCopyOf, copied_as};
 ghost use Rattle.recovery.specs.Surveys.{image_len};
 
 use crate::finding::{Found, find};
-use blocks::Image;
+use crate::freezing::image_blocks;
 use calls::{Format, Refusal};
 use catalog::Catalog;
 use disk_model::Disk;
-use images::image_blocks;
-use machine::Machine;
+use records::Image;
+use replay::Machine;
 use std::alloc::Global;
 
 /// The image of the settled content of the store on a disk, for areas of this size of another disk,

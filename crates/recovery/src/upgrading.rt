@@ -7,7 +7,7 @@ ghost use Rattle.calls.specs.Limits.{number_end};
 ghost use Rattle.disk_model.specs.Disk.{Rises, IsAtRest};
 ghost use Rattle.gate_block.specs.Area.{size_of, has_failed, IsReady};
 ghost use Rattle.images.specs.Images.{IsPackedImage};
-ghost use Rattle.machine.specs.Machines.{resting};
+ghost use Rattle.steps.specs.Machines.{resting};
 ghost use Rattle.checkpoint.specs.declared.laying.Laying.{Laying};
 ghost use Rattle.checkpoint.specs.declared.stage.Stage.{Stage};
 ghost use Rattle.checkpoint.specs.Imaging.{HasPiece, IsBeingLaid, IsTooLong, bodies_of};
@@ -20,14 +20,14 @@ ghost use Rattle.recovery.specs.Upgrades.{KeepsOpened, HasNoRoomForSettled, Goes
 ghost use Rattle.recovery.specs.Upgrades.{HasFlipped, HasFlippedTo, IsTakeRefusal};
 ghost use Rattle.recovery.specs.Upgrades.{IsUpgradeRefusal};
 
-use crate::opening::{Settled, settle};
+use crate::opening::{Recovered, recover};
 use crate::settling::{image_of, in_format};
-use blocks::Image;
 use calls::{Format, Refusal};
 use catalog::Catalog;
 use checkpoint::Keeper;
 use disk_model::Disk;
-use machine::Machine;
+use records::Image;
+use replay::Machine;
 use std::alloc::Global;
 
 /// Brings the store on a disk to format 2, in its place: opens it, writes the image of the settled
@@ -73,27 +73,31 @@ pub fn upgrade<D: Disk>(alloc: Global, disk: D) -> Result<D, (Refusal, D)>
     ensures size_in_refusal { IfErr result (λ x. length (D.seen x.1) ≡ length (D.seen disk)) }
 {
     let mut disk = disk;
-    match settle(alloc, &mut disk) {
-        Ok(settled) => upgrade_settled(alloc, settled, disk),
+    match recover(alloc, &mut disk) {
+        Ok(recovered) => upgrade_recovered(alloc, recovered, disk),
         Err(refusal) => Err((refusal, disk)),
     }
 }
 
 // Brings a store whose losers are undone to the second format.
-fn upgrade_settled<D: Disk>(alloc: Global, settled: Settled, disk: D) -> Result<D, (Refusal, D)>
-    requires fine { has_failed settled.area ≡ false }
-    requires one { IsOneOfTwo settled.area (length (D.seen disk)) }
-    ensures upgraded { IfOk result (λ new. BringsUp settled.machine settled.next settled.area
+fn upgrade_recovered<D: Disk>(
+    alloc: Global,
+    recovered: Recovered,
+    disk: D,
+) -> Result<D, (Refusal, D)>
+    requires fine { has_failed recovered.area ≡ false }
+    requires one { IsOneOfTwo recovered.area (length (D.seen disk)) }
+    ensures upgraded { IfOk result (λ new. BringsUp recovered.machine recovered.next recovered.area
         (D.seen disk) (D.seen new)) }
     ensures durable { IfOk result (λ new. IsAtRest D.seen D.may_leave disk →
         IsAtRest D.seen D.may_leave new) }
-    ensures kept { IfOk result (KeepsOpened ⟦<D as Disk>⟧ settled.machine settled.next
-        settled.area disk) }
-    ensures kept_in_refusal { IfErr result (λ x. KeepsOpened ⟦<D as Disk>⟧ settled.machine
-        settled.next settled.area disk x.1) }
+    ensures kept { IfOk result (KeepsOpened ⟦<D as Disk>⟧ recovered.machine recovered.next
+        recovered.area disk) }
+    ensures kept_in_refusal { IfErr result (λ x. KeepsOpened ⟦<D as Disk>⟧ recovered.machine
+        recovered.next recovered.area disk x.1) }
     ensures refused { IfErr result (λ x. IsUpgradeRefusal
         (Rises (D.fault_count disk) (D.fault_count x.1))
-        (HasNoRoomForSettled settled.machine settled.next settled.area (D.seen disk)) x.0) }
+        (HasNoRoomForSettled recovered.machine recovered.next recovered.area (D.seen disk)) x.0) }
     ensures unwritten { IfErr result (λ x. (x.0 ≡ Refusal.Fault → ⊥) → x.1 ≡ disk) }
     ensures honest { IfOk result (λ new. D.is_honest new → D.is_honest disk) }
     ensures honest_in_refusal { IfErr result (λ x. D.is_honest x.1 → D.is_honest disk) }
@@ -101,11 +105,11 @@ fn upgrade_settled<D: Disk>(alloc: Global, settled: Settled, disk: D) -> Result<
     ensures size { IfOk result (λ new. length (D.seen new) ≡ length (D.seen disk)) }
     ensures size_in_refusal { IfErr result (λ x. length (D.seen x.1) ≡ length (D.seen disk)) }
 {
-    if is_second(settled.machine.format()) {
-        drop(settled);
+    if is_second(recovered.machine.format()) {
+        drop(recovered);
         return Ok(disk);
     }
-    write_second(alloc, settled, disk)
+    write_second(alloc, recovered, disk)
 }
 
 // Whether it is the second format.
@@ -120,20 +124,20 @@ fn is_second(format: Format) -> bool
 
 // Writes the image of a store of another format, whose losers are undone, in the second one, and
 // makes its area the one in use.
-fn write_second<D: Disk>(alloc: Global, settled: Settled, disk: D) -> Result<D, (Refusal, D)>
-    requires other { settled.machine.format ≢ Format.Two }
-    requires fine { has_failed settled.area ≡ false }
-    requires one { IsOneOfTwo settled.area (length (D.seen disk)) }
-    ensures upgraded { IfOk result (λ new. BringsUp settled.machine settled.next settled.area
+fn write_second<D: Disk>(alloc: Global, recovered: Recovered, disk: D) -> Result<D, (Refusal, D)>
+    requires other { recovered.machine.format ≢ Format.Two }
+    requires fine { has_failed recovered.area ≡ false }
+    requires one { IsOneOfTwo recovered.area (length (D.seen disk)) }
+    ensures upgraded { IfOk result (λ new. BringsUp recovered.machine recovered.next recovered.area
         (D.seen disk) (D.seen new)) }
     ensures durable { IfOk result (IsAtRest D.seen D.may_leave) }
-    ensures kept { IfOk result (KeepsOpened ⟦<D as Disk>⟧ settled.machine settled.next
-        settled.area disk) }
-    ensures kept_in_refusal { IfErr result (λ x. KeepsOpened ⟦<D as Disk>⟧ settled.machine
-        settled.next settled.area disk x.1) }
+    ensures kept { IfOk result (KeepsOpened ⟦<D as Disk>⟧ recovered.machine recovered.next
+        recovered.area disk) }
+    ensures kept_in_refusal { IfErr result (λ x. KeepsOpened ⟦<D as Disk>⟧ recovered.machine
+        recovered.next recovered.area disk x.1) }
     ensures refused { IfErr result (λ x. IsUpgradeRefusal
         (Rises (D.fault_count disk) (D.fault_count x.1))
-        (HasNoRoomForSettled settled.machine settled.next settled.area (D.seen disk)) x.0) }
+        (HasNoRoomForSettled recovered.machine recovered.next recovered.area (D.seen disk)) x.0) }
     ensures unwritten { IfErr result (λ x. (x.0 ≡ Refusal.Fault → ⊥) → x.1 ≡ disk) }
     ensures honest { IfOk result (λ new. D.is_honest new → D.is_honest disk) }
     ensures honest_in_refusal { IfErr result (λ x. D.is_honest x.1 → D.is_honest disk) }
@@ -141,11 +145,11 @@ fn write_second<D: Disk>(alloc: Global, settled: Settled, disk: D) -> Result<D, 
     ensures size { IfOk result (λ new. length (D.seen new) ≡ length (D.seen disk)) }
     ensures size_in_refusal { IfErr result (λ x. length (D.seen x.1) ≡ length (D.seen disk)) }
 {
-    let Settled {
+    let Recovered {
         machine,
         next,
         area,
-    } = settled;
+    } = recovered;
     machine.upheld();
     match second_image(alloc, machine, next) {
         Ok(image) => {

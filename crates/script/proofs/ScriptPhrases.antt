@@ -14,7 +14,7 @@ use Rattle.script.specs.declared.action.Request.{Request}
 use Rattle.script.specs.declared.action.Action.{Action}
 use Rattle.calls.specs.Contents.{kind_text}
 use Rattle.calls.proofs.KindLaws.{kind_whole}
-use Rattle.script.specs.ScriptTexts.{IsWord, IsClient, CanBeDone, operation_text, CanBePutOff}
+use Rattle.script.specs.ScriptTexts.{IsWord, IsClient, CanBeDone, operation_text, CanBeDeferred}
 use Rattle.script.specs.ScriptTexts.{later_text}
 use Rattle.script.specs.ScriptTexts.{request_text, IsRequestOf, IsMakeOf, IsCallOf, IsLaterOf}
 use Rattle.script.specs.ScriptTexts.{IsClientLine, IsLineOf}
@@ -44,15 +44,15 @@ call_is_back text front back (Request.Call name o) e first none is =
     none o is.1 (sym parts.1)
 call_is_back text front back r e first none is = is
 
--- ---- calls that are put off
+-- ---- calls that are deferred
 
--- The first letter of a call that is put off, as a number: a bump and a fill have not the same.
+-- The first letter of a call that is deferred, as a number: a bump and a fill have not the same.
 abbrev initial : List ℕ → ℕ
 initial t = get_or t 0 0
 
 -- behind the word bump stands a number, and behind the word fill
 bump_is_number : (text rest : List ℕ) (c : Call) → text ≡ codes "bump " ++ rest →
-    ((n : ℤ) → FitsSigned w64 n → rest ≡ signed_decimal n → ⊥) → CanBePutOff c →
+    ((n : ℤ) → FitsSigned w64 n → rest ≡ signed_decimal n → ⊥) → CanBeDeferred c →
     text ≡ later_text c → ⊥
 bump_is_number text rest (Call.Bump n) e none can is =
     none n can (append_cancel_left (codes "bump ") rest (signed_decimal n) (sym e ∙ is))
@@ -61,7 +61,7 @@ bump_is_number text rest (Call.Fill n) e none can is =
 bump_is_number text rest c e none can is = can
 
 fill_is_number : (text rest : List ℕ) (c : Call) → text ≡ codes "fill " ++ rest →
-    ((n : ℕ) → n < 2 ^ 64 → rest ≡ decimal n → ⊥) → CanBePutOff c → text ≡ later_text c → ⊥
+    ((n : ℕ) → n < 2 ^ 64 → rest ≡ decimal n → ⊥) → CanBeDeferred c → text ≡ later_text c → ⊥
 fill_is_number text rest (Call.Bump n) e none can is =
     let other = ap initial (sym e ∙ is) in absurd (omega arith)
 fill_is_number text rest (Call.Fill n) e none can is =
@@ -71,17 +71,17 @@ fill_is_number text rest c e none can is = can
 -- what is found of the number is found of the whole text
 pub bump_gives : (found : Option Call) (text rest : List ℕ) → text ≡ codes "bump " ++ rest →
     MatchOption found ((n : ℤ) → FitsSigned w64 n → rest ≡ signed_decimal n → ⊥)
-    (λ c. CanBePutOff c × (later_text c ≡ codes "bump " ++ rest)) →
-    MatchOption found ((c : Call) → CanBePutOff c → text ≡ later_text c → ⊥)
-    (λ c. CanBePutOff c × (text ≡ later_text c))
+    (λ c. CanBeDeferred c × (later_text c ≡ codes "bump " ++ rest)) →
+    MatchOption found ((c : Call) → CanBeDeferred c → text ≡ later_text c → ⊥)
+    (λ c. CanBeDeferred c × (text ≡ later_text c))
 bump_gives None text rest e none = λ c. bump_is_number text rest c e none
 bump_gives (Some c) text rest e is = (is.0, e ∙ sym is.1)
 
 pub fill_gives : (found : Option Call) (text rest : List ℕ) → text ≡ codes "fill " ++ rest →
     MatchOption found ((n : ℕ) → n < 2 ^ 64 → rest ≡ decimal n → ⊥)
-    (λ c. CanBePutOff c × (later_text c ≡ codes "fill " ++ rest)) →
-    MatchOption found ((c : Call) → CanBePutOff c → text ≡ later_text c → ⊥)
-    (λ c. CanBePutOff c × (text ≡ later_text c))
+    (λ c. CanBeDeferred c × (later_text c ≡ codes "fill " ++ rest)) →
+    MatchOption found ((c : Call) → CanBeDeferred c → text ≡ later_text c → ⊥)
+    (λ c. CanBeDeferred c × (text ≡ later_text c))
 fill_gives None text rest e none = λ c. fill_is_number text rest c e none
 fill_gives (Some c) text rest e is = (is.0, e ∙ sym is.1)
 
@@ -99,7 +99,7 @@ later_name_is_front text front back (Request.Later name c) e first is =
 later_name_is_front text front back r e first is = absurd is
 
 pub later_is_back : (text front back : List ℕ) (r : Request) → text ≡ front ++ 32 ∷ back →
-    All (λ b. b ≢ 32) front → ((c : Call) → CanBePutOff c → back ≡ later_text c → ⊥) →
+    All (λ b. b ≢ 32) front → ((c : Call) → CanBeDeferred c → back ≡ later_text c → ⊥) →
     IsLaterOf r text → ⊥
 later_is_back text front back (Request.Later name c) e first none is =
     let parts = same_split 32 name (later_text c) front back (sym is.2 ∙ e) is.0.whole first in
@@ -154,7 +154,7 @@ call_is_request text rest (Request.Call name o) e is =
     record { said = (is.0, is.1); is = e ∙ ap (λ (t : List ℕ). codes "call " ++ t) is.2 }
 call_is_request text rest r e is = absurd is
 
--- behind the word later stands a call that is put off and nothing else
+-- behind the word later stands a call that is deferred and nothing else
 request_is_later : (text rest : List ℕ) (r : Request) → text ≡ codes "later " ++ rest →
     IsRequestOf r text → IsLaterOf r rest
 request_is_later text rest (Request.Later name c) e is = (
@@ -205,13 +205,13 @@ called_gives r text rest e =
     found_gives (λ q. call_is_request text rest q e) (λ q. request_is_call text rest q e) r
 
 -- what is found behind the word later is found in the whole text
-pub put_off_gives : {E : Type 0} (r : Result (Option Request) E) (text rest : List ℕ) →
+pub deferred_gives : {E : Type 0} (r : Result (Option Request) E) (text rest : List ℕ) →
     text ≡ codes "later " ++ rest
     → IfOk r (λ found. MatchOption found ((q : Request) → IsLaterOf q rest → ⊥)
     (λ q. IsLaterOf q rest))
     → IfOk r (λ found. MatchOption found ((q : Request) → IsRequestOf q text → ⊥)
     (λ q. IsRequestOf q text))
-put_off_gives r text rest e =
+deferred_gives r text rest e =
     found_gives (λ q. later_is_request text rest q e) (λ q. request_is_later text rest q e) r
 
 -- what is found behind the word make is found in the whole text

@@ -1,7 +1,7 @@
 -- The one number of thousandths of a text, and what stands behind the word within.
 use Rattle.std.proofs.Common.{◌≡◌, ◌≢◌, ◌⊎◌, inl, inr, ℕ, ◌+◌, ◌*◌, ◌<◌, ◌≤◌, ◌^◌, List, []}
 use Rattle.std.proofs.Common.{◌∷◌, ◌++◌, length, get_or}
-use Rattle.std.proofs.Common.{All, refl, sym, subst, ◌∙◌, ap, arith, Option, Some, None, Result, Ok}
+use Rattle.std.proofs.Common.{All, sym, subst, ◌∙◌, ap, arith, Option, Some, None, Result, Ok}
 use Rattle.std.proofs.Common.{Err}
 use Rattle.std.proofs.Common.{codes}
 use Rattle.std.specs.Prelude.{MatchOption, IfOk}
@@ -9,11 +9,10 @@ use Rattle.std.specs.Fmt.{decimal}
 use Rattle.std.proofs.lemmas.Fmt.{decimal_injective}
 use Rattle.script.specs.declared.action.Request.{Request}
 use Rattle.script.specs.declared.wishes.Wish.{Wish}
-use Rattle.script.specs.declared.seconds.Limit.{Limit}
 use Rattle.script.specs.Waits.{IsDigit, ArePlaces, AreWholeSeconds, AreWithPlaces, IsSeconds}
 use Rattle.std.proofs.lemmas.List.{append_cancel_left}
-use Rattle.script.specs.ScriptTexts.{request_text, IsPassedOver}
-use Rattle.script.specs.Wishes.{AreBehind, AreCallsOf, AreWithin, IsWithinOf, IsWishOf}
+use Rattle.script.specs.ScriptTexts.{request_text}
+use Rattle.script.specs.Wishes.{AreBehind, AreCallsOf, IsWithinOf, IsWishOf}
 use Rattle.script.proofs.ScriptWords.{not_whole, decimal_has_no, same_split}
 
 -- ---- a number of seconds
@@ -32,11 +31,6 @@ whole_gives None text whole is none fits = λ ms small are.
     fits (sym are.1 ∙ is) in
     none (omega (arith, are.2))
 whole_gives (Some ms) text whole is found fits = (found.1, (whole, is, omega (arith, found.0)))
-
-pub no_whole : (text : List ℕ) (ms : ℕ) → ((n : ℕ) → n < 2 ^ 64 → text ≡ decimal n → ⊥) →
-    ms ≤ 86400000 → AreWholeSeconds ms text → ⊥
-no_whole text ms none small are =
-    none are.0 (small_whole ms are.0 0 small (omega (arith, are.2))) are.1
 
 -- the thousandths of one text
 digit_is : (x y byte : ℕ) → IsDigit x byte → IsDigit y byte → x ≡ y
@@ -74,11 +68,6 @@ placed_gives None front back whole more is places none fits = λ ms small are.
     none (omega (arith, are.4))
 placed_gives (Some ms) front back whole more is places found fits =
     (found.1, (whole, more, is, places, found.0))
-
-pub no_front : (front back : List ℕ) (ms : ℕ) → ((n : ℕ) → n < 2 ^ 64 → front ≡ decimal n → ⊥) →
-    ms ≤ 86400000 → AreWithPlaces ms front back → ⊥
-no_front front back ms none small are =
-    none are.0 (small_whole ms are.0 are.1 small are.4) are.2
 
 -- the point parts a number with places in one way, and stands in no whole one
 pub pointed_gives : (r : Option ℕ) (text front back : List ℕ) → text ≡ front ++ 46 ∷ back →

@@ -10,7 +10,7 @@ use Rattle.script.specs.ScriptTexts.{IsCallOf, IsLaterOf}
 use Rattle.script.specs.Wishes.{IsPart, IsLaterPart, AreCallsOf}
 use Rattle.script.proofs.ScriptWords.{not_whole, same_split}
 
--- ---- calls that are put off
+-- ---- calls that are deferred
 
 -- what is found behind the word later is found in the whole text
 pub later_gives : {E : Type 0} (r : Result (Option Request) E) (text rest : List ℕ) →
@@ -24,7 +24,7 @@ later_gives (Ok None) text rest e none = λ q is.
 later_gives (Ok (Some q)) text rest e is = (rest, e, is)
 later_gives (Err why) text rest e h = tt
 
--- neither put off nor made at once
+-- neither deferred nor made at once
 pub no_part : {E : Type 0} (r : Result (Option Request) E) (text : List ℕ) →
     ((q : Request) → IsLaterPart q text → ⊥)
     → IfOk r (λ found. MatchOption found ((q : Request) → IsCallOf q text → ⊥)

@@ -143,18 +143,18 @@ IsKeyed Verb.Release = Unit {0}
 IsKeyed Verb.Level = Unit {0}
 IsKeyed verb = ⊥
 
--- ---- calls that are put off
+-- ---- calls that are deferred
 
--- a bump or a fill; no other call is put off
+-- a bump or a fill; no other call is deferred
 abbrev pub later_text : Call → List ℕ
 later_text (Call.Bump n) = codes "bump " ++ signed_decimal n
 later_text (Call.Fill n) = codes "fill " ++ decimal n
 later_text c = []
 
-abbrev pub CanBePutOff : Call → Type 0
-CanBePutOff (Call.Bump n) = FitsSigned w64 n
-CanBePutOff (Call.Fill n) = n < 2 ^ 64
-CanBePutOff c = ⊥
+abbrev pub CanBeDeferred : Call → Type 0
+CanBeDeferred (Call.Bump n) = FitsSigned w64 n
+CanBeDeferred (Call.Fill n) = n < 2 ^ 64
+CanBeDeferred c = ⊥
 
 -- ---- requests
 
@@ -183,7 +183,7 @@ abbrev pub CanBeAsked : Request → Type 0
 CanBeAsked (Request.Make kind name) = IsWord name
 CanBeAsked Request.Begin = Unit {0}
 CanBeAsked (Request.Call name o) = IsWord name × CanBeDone o
-CanBeAsked (Request.Later name c) = IsWord name × CanBePutOff c
+CanBeAsked (Request.Later name c) = IsWord name × CanBeDeferred c
 CanBeAsked Request.Commit = Unit {0}
 CanBeAsked Request.Abort = Unit {0}
 CanBeAsked Request.Kept = Unit {0}
@@ -212,7 +212,7 @@ IsCallOf r text = ⊥
 -- the text, behind the word later, asks for this call
 abbrev pub IsLaterOf : Request → List ℕ → Type 0
 IsLaterOf (Request.Later name c) text =
-    IsWord name × CanBePutOff c × (text ≡ name ++ 32 ∷ later_text c)
+    IsWord name × CanBeDeferred c × (text ≡ name ++ 32 ∷ later_text c)
 IsLaterOf r text = ⊥
 
 -- the text, behind the letter c, asks for this

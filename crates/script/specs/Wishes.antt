@@ -5,11 +5,11 @@ use Rattle.script.specs.declared.wishes.Wish.{Wish}
 use Rattle.script.specs.ScriptTexts.{IsRequestOf, IsCallOf, IsLaterOf, IsPassedOver}
 use Rattle.script.specs.Waits.{IsSeconds}
 
--- the text asks for this put off call
+-- the text asks for this deferred call
 abbrev pub IsLaterPart : Request → List ℕ → Type 0
 IsLaterPart r text = (rest : List ℕ) × (text ≡ codes "later " ++ rest) × IsLaterOf r rest
 
--- the text asks for this call, which may be put off
+-- the text asks for this call, which may be deferred
 abbrev pub IsPart : Request → List ℕ → Type 0
 IsPart r text = IsLaterPart r text ⊎ IsCallOf r text
 

@@ -20,7 +20,7 @@ pub enum Request {
     Begin,
     /// An operation on the collection of the name.
     Call(Name, Operation),
-    /// The call, a bump or a fill, on the collection of the name is put off to the commit.
+    /// The call, a bump or a fill, on the collection of the name is deferred to the commit.
     Later(Name, Call),
     /// The transaction is committed.
     Commit,

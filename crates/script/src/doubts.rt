@@ -91,13 +91,13 @@ fn in_call<'a>(name: &'a str, text: &'a str) -> (&'a str, Why) {
     }
 }
 
-// Of the words of a call that is put off, behind the name of a collection.
-fn in_put_off_call<'a>(name: &'a str, text: &'a str) -> (&'a str, Why) {
+// Of the words of a call that is deferred, behind the name of a collection.
+fn in_deferred_call<'a>(name: &'a str, text: &'a str) -> (&'a str, Why) {
     let (verb, rest) = front(text);
     match verb {
         "bump" => in_arguments(verb, rest, &[Thing::Number]),
         "fill" => in_arguments(verb, rest, &[Thing::Natural]),
-        _ => at_word(name, text, Thing::PutOffCall),
+        _ => at_word(name, text, Thing::DeferredCall),
     }
 }
 
@@ -121,7 +121,7 @@ fn in_request<'a>(client: &'a str, text: &'a str) -> (&'a str, Why) {
         "call" | "later" => match front(rest) {
             ("", _) => (word, Why::Wants(Thing::Name)),
             (name, call) if word == "call" => in_call(name, call),
-            (name, call) => in_put_off_call(name, call),
+            (name, call) => in_deferred_call(name, call),
         },
         _ => at_word(client, text, Thing::Request),
     }
@@ -154,7 +154,7 @@ fn in_part<'a>(before: &'a str, call: &'a str) -> (&'a str, Why) {
         ("", _) => (before, Why::Wants(Thing::Name)),
         ("later", rest) => match front(rest) {
             ("", _) => ("later", Why::Wants(Thing::Name)),
-            (name, asked) => in_put_off_call(name, asked),
+            (name, asked) => in_deferred_call(name, asked),
         },
         (name, asked) => in_call(name, asked),
     }

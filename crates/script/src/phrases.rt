@@ -7,7 +7,7 @@ ghost use Rattle.calls.specs.declared.call.Call.{Call};
 ghost use Rattle.script.specs.declared.action.Request.{Request};
 ghost use Rattle.script.specs.declared.action.Action.{Action};
 ghost use Rattle.script.specs.ScriptTexts.{IsRequestOf, IsLineOf, IsClientLine, IsMakeOf, IsCallOf};
-ghost use Rattle.script.specs.ScriptTexts.{IsLaterOf, CanBePutOff, later_text};
+ghost use Rattle.script.specs.ScriptTexts.{IsLaterOf, CanBeDeferred, later_text};
 
 use crate::action::{Action, Request};
 use crate::operations::operation;
@@ -35,7 +35,7 @@ pub fn called(alloc: Global, text: &[u8]) -> Result<Option<Request>, AllocError>
 // The bump of a number.
 fn bump(text: &[u8]) -> Option<Call>
     ensures { MatchOption result ((n : ℤ) → FitsSigned w64 n → text.now ≡ signed_decimal n → ⊥)
-        (λ c. CanBePutOff c × (later_text c ≡ codes "bump " ++ text.now)) }
+        (λ c. CanBeDeferred c × (later_text c ≡ codes "bump " ++ text.now)) }
 {
     match number(text) {
         Some(by) => Some(Call::Bump(by)),
@@ -46,7 +46,7 @@ fn bump(text: &[u8]) -> Option<Call>
 // The fill of a number.
 fn fill(text: &[u8]) -> Option<Call>
     ensures { MatchOption result ((n : ℕ) → n < 2 ^ 64 → text.now ≡ decimal n → ⊥)
-        (λ c. CanBePutOff c × (later_text c ≡ codes "fill " ++ text.now)) }
+        (λ c. CanBeDeferred c × (later_text c ≡ codes "fill " ++ text.now)) }
 {
     match natural(text) {
         Some(amount) => Some(Call::Fill(amount)),
@@ -54,10 +54,10 @@ fn fill(text: &[u8]) -> Option<Call>
     }
 }
 
-// The call that the text puts off.
+// The call that the text defers.
 fn deferred(text: &[u8]) -> Option<Call>
-    ensures { MatchOption result ((c : Call) → CanBePutOff c → text.now ≡ later_text c → ⊥)
-        (λ c. CanBePutOff c × (text.now ≡ later_text c)) }
+    ensures { MatchOption result ((c : Call) → CanBeDeferred c → text.now ≡ later_text c → ⊥)
+        (λ c. CanBeDeferred c × (text.now ≡ later_text c)) }
 {
     if let Some(rest) = behind(text, b"bump ") {
         return bump(rest);
@@ -69,7 +69,7 @@ fn deferred(text: &[u8]) -> Option<Call>
 }
 
 // What stands behind the word later.
-pub fn put_off(alloc: Global, text: &[u8]) -> Result<Option<Request>, AllocError>
+pub fn deferral(alloc: Global, text: &[u8]) -> Result<Option<Request>, AllocError>
     ensures { IfOk result (λ found. MatchOption found ((r : Request) → IsLaterOf r text.now → ⊥)
         (λ r. IsLaterOf r text.now)) }
 {
@@ -123,7 +123,7 @@ pub fn request(alloc: Global, text: &[u8]) -> Result<Option<Request>, AllocError
         return called(alloc, rest);
     }
     if let Some(rest) = behind(text, b"later ") {
-        return put_off(alloc, rest);
+        return deferral(alloc, rest);
     }
     match behind(text, b"make ") {
         Some(rest) => made(alloc, rest),

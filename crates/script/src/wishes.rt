@@ -5,7 +5,7 @@ ghost use Rattle.script.specs.declared.wishes.Wish.{Wish};
 ghost use Rattle.script.specs.Wishes.{IsWishOf, AreCallsOf, IsPart, IsLaterPart, IsWithinOf};
 
 use crate::action::Request;
-use crate::phrases::{called, put_off, request};
+use crate::phrases::{called, deferral, request};
 use crate::seconds::{Limit, seconds};
 use crate::words::{behind, same, split_at_byte};
 use std::alloc::{AllocError, Global};
@@ -21,7 +21,7 @@ pub enum Wish {
     Wait,
     /// A commit of the open transaction, and a wait until it is kept.
     Keep,
-    /// These calls, some of which may be put off to the commit, and a commit: of the transaction
+    /// These calls, some of which may be deferred to the commit, and a commit: of the transaction
     /// that is open, and where none is of one of their own.
     Do(Vec<Request>),
     /// The same, and a wait until it is kept.
@@ -37,13 +37,13 @@ pub enum Wish {
     Bye,
 }
 
-// A put off call among the calls of a line.
+// A deferred call among the calls of a line.
 fn later_part(alloc: Global, text: &[u8]) -> Result<Option<Request>, AllocError>
     ensures { IfOk result (λ found. MatchOption found ((r : Request) → IsLaterPart r text.now → ⊥)
         (λ r. IsLaterPart r text.now)) }
 {
     match behind(text, b"later ") {
-        Some(rest) => put_off(alloc, rest),
+        Some(rest) => deferral(alloc, rest),
         None => Ok(None),
     }
 }

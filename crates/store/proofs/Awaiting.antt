@@ -4,15 +4,16 @@ use Rattle.std.proofs.Common.{◌∙◌, subst}
 use Rattle.calls.specs.Contents.{Collection}
 use Rattle.calls.specs.declared.refusal.Refusal.{Refusal}
 use Rattle.disk_model.specs.declared.disk.Disk as disks
-use Rattle.blocks.specs.declared.block.Image.{Image}
+use Rattle.records.specs.declared.block.Image.{Image}
 use Rattle.images.specs.Gathers.{GatherState, FrozenState, Packs}
-use Rattle.images.specs.declared.gather.Marks.{Marks}
+use Rattle.images.specs.declared.gather.ImageHead.{ImageHead}
 use Rattle.txn.specs.Books.{BookState}
 use Rattle.checkpoint.specs.declared.stage.Stage.{Stage}
 use Rattle.checkpoint.specs.ImageAnswers.{BeginAnswers}
 use Rattle.checkpoint.specs.Imaging.{IsAwaited, IsHere, IsAwaitedElse, pieces_left}
 use Rattle.checkpoint.specs.Keepers.{KeeperState}
-use Rattle.group_commit.specs.Accords.{AccordState, nothing_gathered}
+use Rattle.group_commit.specs.Accords.{AccordState}
+use Rattle.images.specs.Gathers.{nothing_gathered}
 use Rattle.store.specs.Gatherers.{Froze}
 use Rattle.store.specs.Turns.{IsCheckRefusal}
 use Rattle.store.specs.Vaults.{Awaits}
@@ -56,9 +57,10 @@ awaits_frozen g b k m n (Ok done) c l froze f some =
     let same : holds.frozen ≡ f =
     same_inside holds.frozen f (sym holds.is_frozen ∙ some) in
     ap (λ (s : KeeperState _). s.stage) froze.1.2 ∙
-    ap (λ (v : Marks). Stage.Awaited (record { end = v.end; place = v.place })) (sym holds.marks) ∙
+    ap (λ (v : ImageHead). Stage.Awaited (record { end = v.end; place = v.place }))
+    (sym holds.image_head) ∙
     ap (λ (v : FrozenState).
-    Stage.Awaited (record { end = v.marks.end; place = v.marks.place })) same
+    Stage.Awaited (record { end = v.image_head.end; place = v.image_head.place })) same
 awaits_frozen g b k m n (Err d) c l froze f some = absurd (no_ok froze.1)
   where
     no_ok : ◌≡◌ {A = Result (Unit {0}) Refusal} (Ok tt) (Err d) → ⊥

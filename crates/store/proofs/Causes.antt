@@ -1,28 +1,23 @@
 -- The keeper's seat sets the failed flag only where the keeper has failed.
-use Rattle.std.proofs.Common.{◌≡◌, ◌∙◌, ℕ, ◌≤◌, Bool, true, false, true≢false, Result, Ok, Err}
-use Rattle.std.proofs.Common.{List, length, sym, ap, ◌+◌, ◌<◌}
-use Rattle.std.specs.Prelude.{IfOk, IfErr}
-use Rattle.std.specs.Borrow.{MutBor}
+use Rattle.std.proofs.Common.{◌≡◌, ◌∙◌, ℕ, Bool, true, false, true≢false, Result, Ok, Err}
+use Rattle.std.proofs.Common.{List, sym, ap}
 use Rattle.calls.specs.Contents.{Collection}
 use Rattle.calls.specs.declared.refusal.Refusal.{Refusal}
 use Rattle.disk_model.specs.declared.disk.Disk as disks
-use Rattle.blocks.specs.declared.block.Image.{Image}
+use Rattle.records.specs.declared.block.Image.{Image}
 use Rattle.checkpoint.specs.declared.stage.Ending.{Ending}
-use Rattle.checkpoint.specs.declared.turn.Turn.{Turn}
 use Rattle.checkpoint.specs.Keepers.{KeeperState}
 use Rattle.checkpoint.specs.ImageAnswers.{HoldAnswers, BeginAnswers, PieceAnswers, FlipAnswers}
 use Rattle.images.specs.Gathers.{GatherState}
 use Rattle.txn.specs.Books.{BookState}
-use Rattle.group_commit.specs.Marks.{WatcherState}
-use Rattle.store.specs.declared.checkpointing.Checkpoint.{Checkpoint}
 use Rattle.store.specs.Gatherers.{Froze}
-use Rattle.store.specs.Turns.{StaysCaused, IsPrepared, IsCopyRefusal, IsCheckRefusal, CheckTells}
-use Rattle.store.specs.Turns.{IsFreezeRefusal}
+use Rattle.store.specs.Turns.{StaysCaused}
 
 pub not_both : (b : Bool) {X : Type 0} → b ≡ true → b ≡ false → X
 not_both b is not = absurd (true≢false (sym is ∙ not))
 
-pub piece_caused : {D : Type 0} (k l : KeeperState D) (is_risen : Type 0) (r : Result Bool Refusal) →
+pub piece_caused : {D : Type 0} (k l : KeeperState D) (is_risen : Type 0)
+    (r : Result Bool Refusal) →
     PieceAnswers k is_risen l r → StaysCaused r k.failed l.failed
 piece_caused k l is_risen (Ok more) a stops was said = not_both k.failed (was said) a.0
 piece_caused {D = D} k l is_risen (Err Refusal.Failed) a stops was said =
@@ -73,23 +68,3 @@ froze_caused g b c k l m n (Err Refusal.Outrun) r froze =
 froze_caused g b c k l m n (Err e) r froze = absurd froze.0.0
 
 -- ---- what is told
-
--- A copy tells nothing of the mark.
-pub copied_tells : (old new : WatcherState) (r : Result Checkpoint Refusal) → IfOk r IsPrepared →
-    IfErr r IsCopyRefusal → new ≡ old → CheckTells old r new
-copied_tells old new (Ok Checkpoint.Gathered) prepared refused same = same
-copied_tells old new (Ok Checkpoint.Frozen) prepared refused same = same
-copied_tells old new (Ok Checkpoint.Packed) prepared refused same = same
-copied_tells old new (Ok c) prepared refused same = absurd prepared
-copied_tells old new (Err Refusal.NoMemory) prepared refused same = same
-copied_tells old new (Err Refusal.Outrun) prepared refused same = same
-copied_tells old new (Err Refusal.Worn) prepared refused same = same
-copied_tells old new (Err e) prepared refused same = absurd refused
-
-pub copied_refused : (r : Result Checkpoint Refusal) → IfErr r IsCopyRefusal →
-    IfErr r IsCheckRefusal
-copied_refused (Ok c) refused = tt
-copied_refused (Err Refusal.NoMemory) refused = tt
-copied_refused (Err Refusal.Outrun) refused = tt
-copied_refused (Err Refusal.Worn) refused = tt
-copied_refused (Err e) refused = absurd refused

@@ -1,5 +1,7 @@
 -- A copy of a collection and a freeze keep what lies under the journal's lock.
-use Rattle.std.proofs.Common.{◌≡◌, ◌∙◌, inl, inr, ℕ, List, [], ◌∷◌, ◌++◌, Bool, Option, Some, None, Result, Ok, Err}
+use Rattle.std.proofs.Common.{◌⊎◌, ⊎_elim}
+use Rattle.std.proofs.Common.{◌≡◌, ◌∙◌, inl, inr, ℕ, List, [], ◌∷◌, ◌++◌, Bool, Option, Some, None}
+use Rattle.std.proofs.Common.{Result, Ok, Err}
 use Rattle.std.proofs.Common.{OnOk, IfOk, IfErr, length, slice_get, refl, sym, ap, subst}
 use Rattle.std.specs.Option.{option_map, unwrap_or}
 use Rattle.std.proofs.lemmas.Option.{slice_get-map}
@@ -13,19 +15,20 @@ use Rattle.catalog.specs.Laws.Numbers.{put_pick}
 use Rattle.catalog.specs.Making.{Making}
 use Rattle.catalog.specs.Shelving.{ShelfLaws, CopyRefused}
 use Rattle.catalog.specs.Woven.{Label, names_in}
-use Rattle.shelf.specs.Shelves.{ShelfState}
+use Rattle.steps.specs.Shelves.{ShelfState}
 use Rattle.images.specs.Gathers.{GatherState, Repeats, caught_up}
 use Rattle.images.specs.Gatherings.{CanGoOn, GoesAlong}
-use Rattle.txn.specs.declared.steps.Action.{Action}
-use Rattle.txn.specs.Books.{BookState, position}
+use Rattle.txn.specs.declared.actions.Action.{Action}
+use Rattle.txn.specs.Books.{BookState, lsn}
 use Rattle.txn.specs.Freezing.{IsGatheredOf, BookGathers, FreezeAnswers}
 use Rattle.txn.specs.Parts.{IsCopy, IsGivenNext, GathersOn}
 use Rattle.txn.specs.Shelved.{JournalState, book_state, IsBook}
 use Rattle.txn.proofs.Copying.{only_memory, below_named}
 use Rattle.txn.proofs.Handings.{frozen_not}
 use Rattle.checkpoint.specs.Keepers.{KeeperState}
-use Rattle.world.proofs.GatherLemmas.{repeats_none}
-use Rattle.group_commit.specs.Accords.{AccordState, nothing_gathered}
+use Rattle.engine.proofs.Packed.{repeats_none}
+use Rattle.group_commit.specs.Accords.{AccordState}
+use Rattle.images.specs.Gathers.{nothing_gathered}
 use Rattle.group_commit.specs.Lines as lines
 use Rattle.group_commit.specs.Lines.{stepped}
 use Rattle.group_commit.specs.Orders.{SenderState}
@@ -39,7 +42,9 @@ use Rattle.desks.specs.Touches.{Leads, IsJournalDesk}
 use Rattle.desks.proofs.Telling.{along_told, gathered_back}
 use Rattle.desks.proofs.Touching.{known_is}
 use Rattle.store.specs.Gatherers.{GathererState, IsKnown, IsGatherer, IsGivenTo}
-use Rattle.store.specs.Gatherers.{as_next, Froze}
+use Rattle.store.specs.Gatherers.{as_next, Froze, left_gathered}
+use Rattle.engine.specs.Gatherings.{unless_outrun}
+use Rattle.engine.proofs.Packed.{outrun_or, outrun_unfrozen}
 use Rattle.store.specs.Turns.{IsCopyRefusal, IsFreezeRefusal}
 use Rattle.store.proofs.Freezes.{desk_gathers}
 use Rattle.store.proofs.Gathers.{known_of_book, copied_of_book, repeats_both}
@@ -79,8 +84,8 @@ module _ {J S T N P : Type 0} (j : Ghosts J) {labels : N → List Label}
       given.desk.shelves g r l h) where
     along : (r : Result Bool Refusal) → OnOk r (GoesAlong collections l.gathering
         (book_state whole l given.desk.shelves).state.now
-        (position (book_state whole l given.desk.shelves)) h) →
-        OnOk r (GoesAlong (λ v. v) l.gathering (told l).state.now (position (told l)) h)
+        (lsn (book_state whole l given.desk.shelves)) h) →
+        OnOk r (GoesAlong (λ v. v) l.gathering (told l).state.now (lsn (told l)) h)
     along (Ok more) goes = along_told collections _ _ _ _ goes
     along (Err e) goes = tt
 
@@ -218,7 +223,8 @@ module _ {J S T N P : Type 0} (j : Ghosts J) {labels : N → List Label}
     hungry : (part : Result P Refusal) → IfErr part (CopyRefused (holds s.now at)) →
         IfErr (as_next part) (λ e. e ≡ Refusal.NoMemory)
     hungry (Ok p) why = tt
-    hungry (Err e) why = only_memory collection laws k.names desk.shelves at e desk.known.book.joined.fit
+    hungry (Err e) why = only_memory collection laws k.names desk.shelves at e
+        desk.known.book.joined.fit
         (below_named (labels k.names) at n name_at)
         (subst (λ (t : ShelfState T). CopyRefused (holds t.now at) e) here why)
 
@@ -263,13 +269,30 @@ refused_so b c m n Refusal.Unfinished froze = tt
 refused_so b c m n Refusal.Outrun froze = tt
 refused_so b c m n d froze = absurd froze.0
 
--- What is refused, and not frozen, is gathered as before.
-pub froze_same : {D : Type 0} (g : disks.Ghosts D) (b c : BookState (List Collection))
-    (k l : KeeperState D) (m n : GatherState) (frozen : Result (Unit {0}) Refusal) (e : Refusal) →
-    Froze g b k m frozen (Err e) c l n → n.frozen ≡ None → n ≡ m
-froze_same g b c k l m n (Ok done) e froze none =
-    let holds = froze.0.1 in absurd (none_some holds.frozen (sym none ∙ holds.is_frozen))
-froze_same g b c k l m n (Err d) e froze none = refused_same b c m n d froze.0
+-- What is refused leaves what was gathered, or nothing.
+pub froze_left : {D : Type 0} (g : disks.Ghosts D) (b c : BookState (List Collection))
+    (k l : KeeperState D) (m n h : GatherState) (frozen : Result (Unit {0}) Refusal)
+    (e : Refusal) → Froze g b k m frozen (Err e) c l n → m.frozen ≡ None →
+    h ≡ left_gathered frozen (Err e) n →
+    (h.frozen ≡ None) × ((h ≡ m) ⊎ (h ≡ nothing_gathered))
+froze_left g b c k l m n h (Ok done) e froze none left =
+    (ap (λ (v : GatherState). v.frozen) left, inr left)
+froze_left g b c k l m n h (Err d) e froze none left =
+    let is : h ≡ unless_outrun m.frozen d m =
+    left ∙ ap (λ (v : GatherState). unless_outrun v.frozen d v) (refused_same b c m n d froze.0) in (
+      ap (λ (v : GatherState). v.frozen) is ∙ outrun_unfrozen m.frozen d m none,
+      ⊎_elim (λ same. inl (is ∙ same)) (λ gone. inr (is ∙ gone)) (outrun_or m.frozen d m),
+    )
+
+-- What is not refused stays.
+pub froze_held : {D : Type 0} (g : disks.Ghosts D) (b c : BookState (List Collection))
+    (k l : KeeperState D) (m n h : GatherState) (frozen : Result (Unit {0}) Refusal) →
+    Froze g b k m frozen (Ok tt) c l n → h ≡ left_gathered frozen (Ok tt) n → h ≡ n
+froze_held g b c k l m n h (Ok done) froze left = left
+froze_held g b c k l m n h (Err d) froze left = absurd (no_ok d froze.1)
+  where
+    no_ok : (d : Refusal) → ◌≡◌ {A = Result (Unit {0}) Refusal} (Ok tt) (Err d) → ⊥
+    no_ok d both = absurd cc
 
 -- Why a freeze is refused.
 pub froze_refused : {D : Type 0} (g : disks.Ghosts D) (b c : BookState (List Collection))

@@ -1,7 +1,7 @@
 -- What the receiving end of a hand-off knows once a borrow of it is given back.
 use Rattle.std.proofs.Common.{◌≡◌, List, ap, ◌∙◌, sym}
 use Rattle.std.specs.Borrow.{MutBor}
-use Rattle.blocks.specs.declared.block.Block.{Block}
+use Rattle.records.specs.declared.block.Block.{Block}
 use Rattle.group_commit.specs.Ends.{Receives}
 use Rattle.group_commit.specs.Orders.{ReceiverState}
 use Rattle.store.specs.Turns.{IsReceived}

@@ -1,9 +1,9 @@
 -- A copy of a collection and a freeze keep what lies under the locks; what a closed store leaves.
-use Rattle.std.proofs.Common.{◌≡◌, inl, inr, ℕ, ◌+◌, ◌≤◌, Bool, true, false, Some, None, Result, Ok}
+use Rattle.std.proofs.Common.{◌≡◌, inl, inr, ℕ, ◌+◌, ◌≤◌, Bool, true, false, None, Result, Ok}
 use Rattle.std.proofs.Common.{Err, List}
 use Rattle.std.proofs.Common.{[], ◌∷◌, ◌++◌, length, refl, sym, ap, ◌∙◌, subst, arith}
 use Rattle.std.proofs.Common.{length-append, append_assoc}
-use Rattle.std.proofs.Common.{Option, ◌⊎◌, ◌<◌}
+use Rattle.std.proofs.Common.{◌⊎◌, ◌<◌}
 use Rattle.std.specs.Prelude.{All, Contains}
 use Rattle.std.specs.Option.{option_map}
 use mathlib.Core.List.{IsPrefix}
@@ -12,25 +12,25 @@ use Rattle.std.proofs.lemmas.List.Elements.{All-tail, All-contains}
 use Rattle.calls.specs.Contents.{Collection}
 use Rattle.calls.specs.declared.refusal.Refusal.{Refusal}
 use Rattle.disk_model.specs.declared.disk.Disk as disks
-use Rattle.record_format.specs.declared.record.Record.{Record}
-use Rattle.record_format.specs.Acts.{places}
-use Rattle.record_format.specs.Short.{AreShort}
-use Rattle.blocks.specs.declared.block.Block.{Block}
-use Rattle.blocks.specs.declared.block.Image.{Image}
-use Rattle.blocks.specs.Carried.{Carries}
-use Rattle.blocks.specs.Packings.{joined}
-use Rattle.blocks.proofs.Carrying.{joined-append, carries_parts}
-use Rattle.images.specs.declared.gather.Marks.{Marks}
+use Rattle.records.specs.declared.record.Record.{Record}
+use Rattle.records.specs.Acts.{places}
+use Rattle.records.specs.Short.{AreShort}
+use Rattle.records.specs.declared.block.Block.{Block}
+use Rattle.records.specs.declared.block.Image.{Image}
+use Rattle.records.specs.Carried.{Carries}
+use Rattle.records.specs.Packings.{joined}
+use Rattle.records.proofs.Carrying.{joined-append, carries_parts}
+use Rattle.images.specs.declared.gather.ImageHead.{ImageHead}
 use Rattle.images.specs.Gathers.{GatherState, FrozenState, Packs}
 use Rattle.images.specs.Gatherings.{HoldsAll, IsUnderWay}
 use Rattle.images.proofs.Going.{holds_image}
-use Rattle.machine.specs.Machine as machine
-use Rattle.machine.specs.Machine.{journalled}
-use Rattle.machine.specs.Sound.{IsSound}
-use Rattle.repetition.specs.Journals.{records_in}
-use Rattle.txn.specs.declared.steps.Action.{Action}
-use Rattle.txn.specs.declared.steps.BookStep.{BookStep}
-use Rattle.txn.specs.Books.{BookState, standing, position, IsKept}
+use Rattle.steps.specs.Machine as machine
+use Rattle.steps.specs.Machine.{journalled}
+use Rattle.steps.specs.Sound.{IsSound}
+use Rattle.replay.specs.Journals.{records_in}
+use Rattle.txn.specs.declared.actions.Action.{Action}
+use Rattle.txn.specs.declared.actions.BookStep.{BookStep}
+use Rattle.txn.specs.Books.{BookState, standing, lsn, IsKept}
 use Rattle.txn.specs.Freezing.{IsGatheredOf, IsImageOf, FreezeAnswers}
 use Rattle.txn.specs.Handing.{HasHanded}
 use Rattle.txn.specs.Histories.{records_by, committed_by}
@@ -46,13 +46,17 @@ use Rattle.checkpoint.specs.Keepers.{KeeperState}
 use Rattle.checkpoint.specs.Keeping.{BegunImage, IsApart, Uncrossed, HasReceived, HoldKeeps}
 use Rattle.checkpoint.proofs.GroupLemmas.{uncrossed_front}
 use Rattle.checkpoint.proofs.ReceivedLemmas.{mark_few}
-use Rattle.world.proofs.FreezeLemmas as freezes
-use Rattle.world.proofs.GatherLemmas.{held_same, repeats_none}
-use Rattle.world.proofs.KeeperSteps.{none_crossed}
-use Rattle.world.proofs.Readings.{comes_to, history_yields}
+use Rattle.recovery.proofs.FrozenBooks as freezes
+use Rattle.engine.proofs.KeeperLemmas.{held_same}
+use Rattle.engine.specs.Gatherings.{IsHeadOf, IsHeld, HoldsOn}
+use Rattle.engine.proofs.Packed.{repeats_none, one_head}
+use Rattle.engine.proofs.KeeperLemmas.{none_crossed}
+use Rattle.recovery.proofs.CommittedReads.{comes_to, history_yields}
 use Rattle.group_commit.specs.Accords.{AccordState}
 use Rattle.group_commit.specs.Lines as lines
 use Rattle.group_commit.specs.Lines.{stepped}
+use Rattle.group_commit.specs.Histories.{AreCounted}
+use Rattle.clients.specs.Known.{SeenState}
 use Rattle.group_commit.specs.declared.mark.Raised.{Raised}
 use Rattle.group_commit.specs.Marks.{KeeperMark, AreReached, AreNoted, HasCome, top, unraised}
 use Rattle.group_commit.proofs.Marking.{noted_reached}
@@ -64,7 +68,7 @@ use Rattle.desks.specs.Told.{told_book}
 use Rattle.desks.proofs.Telling.{kept_told}
 use Rattle.desks.proofs.Owning.{owned_alone}
 use Rattle.store.specs.Closing.{Closes}
-use Rattle.store.specs.Gatherers.{Froze}
+use Rattle.store.specs.Gatherers.{Froze, left_gathered}
 use Rattle.store.specs.Vaults.{LeavesSince, IsVault, IsKeptSince}
 use Rattle.store.proofs.Causes.{hold_caused}
 use Rattle.store.proofs.VaultSteps.{leaves_on, kept_on}
@@ -243,14 +247,14 @@ module _ {J D : Type 0} (j : Ghosts J) (g : disks.Ghosts D) where
           (omega arith) bytes
           y
 
-    pub closes : (seen : List BookStep) (counts : List Raised) → IsPrefix seen seat.all →
-        AreNoted counts mark.raised → Closes j g seen counts book k
-    closes seen counts begins noted = record {
+    pub closes : (left : SeenState) (made : ℕ) → AreCounted left.clients made seat.all →
+        AreNoted left.counts mark.raised → Closes j g left made book k
+    closes left made counted noted = record {
       steps = seat.all;
       legal = record { legal = handed.legal; owned = desk.owned };
-      begins = begins;
-      reached = reached_more counts (top mark.raised).count k.mark vault.marked
-          (noted_reached counts mark.raised noted);
+      counted = counted;
+      reached = reached_more left.counts (top mark.raised).count k.mark vault.marked
+          (noted_reached left.counts mark.raised noted);
       stop = λ s bytes left.
           history_yields j.origin.format j.origin.start j.origin.wear seat.all (standing book)
           handed.legal k.mark
@@ -267,7 +271,7 @@ module _ {J D : Type 0} (j : Ghosts J) (g : disks.Ghosts D) where
         ];
       };
       since_told = λ s x some told.
-          let come = All-contains (HasCome mark.raised) counts x noted some in
+          let come = All-contains (HasCome mark.raised) left.counts x noted some in
           let since = All-contains (IsKeptSince j g k
           (YieldsUpTo j.origin.start (records_by seat.all)))
           mark.raised x (received s).2 (raised_some x mark.raised told come.noted) in record {
@@ -304,7 +308,7 @@ module _ {J D : Type 0} (j : Ghosts J) (g : disks.Ghosts D) where
 
       image_of : (image : Image) → Packs n image → IsImageOf (λ v. v) book image
       image_of image packs =
-          let is = holds_image (λ v. v) book.next book.places (position book) book.state n n image
+          let is = holds_image (λ v. v) book.next book.places (lsn book) book.state n n image
           froze.1 (repeats_none n) packs in
           record { packed = is.0; end = is.1; place = is.2 }
 
@@ -349,7 +353,7 @@ module _ {J D : Type 0} (j : Ghosts J) (g : disks.Ghosts D) where
 
         frozen_handed : HasHanded catalog_meaning catalog_making (λ v. v) j.origin.format
             j.origin.start j.origin.wear
-            (seat.all ++ step ∷ []) c sender.sent desk.groups (position book ∷ ends) []
+            (seat.all ++ step ∷ []) c sender.sent desk.groups (lsn book ∷ ends) []
         frozen_handed = freezes_gathered catalog_meaning catalog_making (λ v. v) j.origin.format
             j.origin.start
             j.origin.wear
@@ -405,14 +409,14 @@ module _ {J D : Type 0} (j : Ghosts J) (g : disks.Ghosts D) where
               });
         })
           where
-            end_is : (h : GatherState) → HoldsAll (λ v. v) book.next book.places (position book)
-                book.state h → frozen_end h.frozen ≡ position book
+            end_is : (h : GatherState) → HoldsAll (λ v. v) book.next book.places (lsn book)
+                book.state h → frozen_end h.frozen ≡ lsn book
             end_is h holds = ap frozen_end holds.is_frozen ∙
-                ap (λ (v : Marks). v.end) holds.marks
+                ap (λ (v : ImageHead). v.end) holds.image_head
 
       -- What was received, and what is in use, ends before it.
       covers : j.sound → (groups : List (List Record)) → Carries 0 0 receiver.received groups →
-          (length (records_in groups) ≤ position book) × (k.covered ≤ position book)
+          (length (records_in groups) ≤ lsn book) × (k.covered ≤ lsn book)
       covers s groups carried =
           let first = freezes.received_begins g j.origin.format j.origin.start j.origin.wear
           seat.all book
@@ -431,8 +435,8 @@ module _ {J D : Type 0} (j : Ghosts J) (g : disks.Ghosts D) where
 
       -- the keeper holds the end
       vault_holds : (l : KeeperState D) → HoldAnswers k
-          (record { end = position book; place = book.places }) l (Ok tt) →
-          HoldKeeps g (position book) (Ok tt) k l →
+          (record { end = lsn book; place = book.places }) l (Ok tt) →
+          HoldKeeps g (lsn book) (Ok tt) k l →
           IsVault j g l (noting_too receiver n) mark (record { table = held.table; gather = n })
       vault_holds l answers holds = record {
         handoff = vault.handoff;
@@ -466,7 +470,7 @@ module _ {J D : Type 0} (j : Ghosts J) (g : disks.Ghosts D) where
                     j.origin.wear records state
                     (p ∷ frozen_ends receiver.noted) images receiver.received l)
                     (sym (ap frozen_end froze.1.is_frozen ∙
-                    ap (λ (v : Marks). v.end) froze.1.marks)) kept.0,
+                    ap (λ (v : ImageHead). v.end) froze.1.image_head)) kept.0,
               ),
               leaves_on g j records k l had.1 kept.1,
               kept_on g j records k l mark.raised had.2 kept.1
@@ -476,7 +480,7 @@ module _ {J D : Type 0} (j : Ghosts J) (g : disks.Ghosts D) where
 
     -- where the keeper does not hold the end, it stays
     hold_refused : (l : KeeperState D) (e : Refusal) → HoldAnswers k
-        (record { end = position book; place = book.places }) l (Err e) → l ≡ k
+        (record { end = lsn book; place = book.places }) l (Err e) → l ≡ k
     hold_refused l Refusal.Failed a = a.1
     hold_refused l Refusal.Imaging a = a.2
     hold_refused l e a = absurd a
@@ -516,22 +520,36 @@ module _ {J D : Type 0} (j : Ghosts J) (g : disks.Ghosts D) where
 
 -- ---- where the end is
 
-same_marks : (m n : Marks) → ◌≡◌ {A = Option Marks} (Some m) (Some n) → m ≡ n
-same_marks m n both = cc
-
 -- The keeper was asked to hold the end that what is frozen tells.
-pub froze_and_asked : {D : Type 0} (g : disks.Ghosts D) (b : Book) (k : KeeperState D)
-    (m n : GatherState) (c : Book) → FreezeAnswers (λ v. v) b m (Ok tt) c n → (marks : Marks) →
-    Some marks ≡ option_map (λ f. f.marks) n.frozen → (l : KeeperState D)
+froze_and_asked : {D : Type 0} (g : disks.Ghosts D) (b : Book) (k : KeeperState D)
+    (m n : GatherState) (c : Book) → FreezeAnswers (λ v. v) b m (Ok tt) c n →
+    (image_head : ImageHead) →
+    IsHeadOf n image_head → (l : KeeperState D)
     (r : Result (Unit {0}) Refusal) →
-    HoldAnswers k (record { end = marks.end; place = marks.place }) l r →
-    HoldKeeps g marks.end r k l → Froze g b k m (Ok tt) r c l n
-froze_and_asked g b k m n c froze marks told l r answers keeps =
+    HoldAnswers k (record { end = image_head.end; place = image_head.place }) l r →
+    HoldKeeps g image_head.end r k l → Froze g b k m (Ok tt) r c l n
+froze_and_asked g b k m n c froze image_head told l r answers keeps =
     let holds = froze.1 in
-    let is = same_marks marks holds.frozen.marks
-    (told ∙ ap (option_map (λ (f : FrozenState). f.marks)) holds.is_frozen) ∙ holds.marks in (
+    let is = one_head n image_head holds.frozen.image_head told
+    (sym (ap (option_map (λ (f : FrozenState). f.image_head)) holds.is_frozen)) ∙
+    holds.image_head in (
       froze,
-      subst (λ (v : Marks). HoldAnswers k (record { end = v.end; place = v.place }) l r) is
+      subst (λ (v : ImageHead). HoldAnswers k (record { end = v.end; place = v.place }) l r) is
           answers,
-      subst (λ (v : Marks). HoldKeeps g v.end r k l) is keeps,
+      subst (λ (v : ImageHead). HoldKeeps g v.end r k l) is keeps,
     )
+
+-- The book was frozen so, and then the keeper asked to hold the end.
+pub froze_then : {D : Type 0} (g : disks.Ghosts D) (b : Book) (k : KeeperState D)
+    (m n : GatherState) (c : Book) (frozen held : Result (Unit {0}) Refusal) (l : KeeperState D)
+    (h : GatherState) → FreezeAnswers (λ v. v) b m frozen c n → IsHeld frozen k n held l h →
+    HoldsOn g frozen k n held l →
+    Froze g b k m frozen held c l n × (h ≡ left_gathered frozen held n)
+froze_then g b k m n c (Ok done) held l h froze holds held_on = (
+  froze_and_asked g b k m n c froze holds.0.0 holds.0.1 l held holds.0.2
+      (subst (λ (v : ImageHead). HoldKeeps g v.end held k l)
+      (one_head n held_on.0 holds.0.0 held_on.1 holds.0.1) held_on.2),
+  holds.1,
+)
+froze_then g b k m n c (Err e) held l h froze holds held_on =
+    ((froze, holds.0, holds.1), holds.2)

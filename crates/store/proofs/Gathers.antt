@@ -1,20 +1,21 @@
 -- What is gathered of the book of a store is of the book, from one copy to the next.
 use Rattle.std.proofs.Common.{◌≡◌, ◌≢◌, inl, inr, Bool, None, Result, Ok, Err, List, sym, ap}
-use Rattle.std.proofs.Common.{◌∙◌, subst, Option, Some}
+use Rattle.std.proofs.Common.{◌∙◌, ⊎_elim, subst, Option, Some}
 use Rattle.std.specs.Prelude.{OnOk, IsSome}
 use Rattle.calls.specs.Contents.{Collection}
 use Rattle.calls.specs.declared.refusal.Refusal.{Refusal}
 use Rattle.images.specs.Gathers.{GatherState, Repeats}
 use Rattle.images.proofs.Repeats.{repeated_both}
 use Rattle.images.specs.Gatherings.{GoesAlong}
-use Rattle.txn.specs.Books.{BookState, position}
+use Rattle.txn.specs.Books.{BookState, lsn}
 use Rattle.txn.specs.Freezing.{IsGatheredOf, BookGathers}
-use Rattle.world.specs.Worlds.{IsOfBook}
-use Rattle.world.proofs.OfBook.{of_repeated, of_gathered, of_ungathered}
+use Rattle.engine.specs.Gatherings.{IsOfBook, unless_outrun}
+use Rattle.engine.proofs.Packed.{outrun_or, outrun_unfrozen}
+use Rattle.engine.proofs.OfBook.{of_repeated, of_gathered, of_ungathered}
 use Rattle.group_commit.specs.Accords.{AccordState}
 use Rattle.desks.specs.declared.naming.Naming.{Ghosts}
 use Rattle.desks.proofs.Gathered.{gathered_none}
-use Rattle.store.specs.Gatherers.{IsKnown, IsGatherer}
+use Rattle.store.specs.Gatherers.{GathererState, IsKnown, IsGatherer}
 
 abbrev Book : Type 0
 Book = BookState (List Collection)
@@ -37,7 +38,7 @@ known_of_book b side g of (inr repeats) none =
 -- The next collection is copied, or that is refused.
 pub copied_of_book : (b c : Book) (g h : GatherState) (r : Result Bool Refusal) →
     BookGathers (λ v. v) b g r c h →
-    OnOk r (GoesAlong (λ v. v) c.gathering c.state.now (position c) h) → g.frozen ≡ None →
+    OnOk r (GoesAlong (λ v. v) c.gathering c.state.now (lsn c) h) → g.frozen ≡ None →
     Of b g → Of c h × (h.frozen ≡ None)
 copied_of_book b c g h (Ok more) gathers along none of = (
   (of_gathered b c g h more gathers along (in_world b g none of)).gathered,
@@ -77,3 +78,17 @@ module _ {J : Type 0} (j : Ghosts J) where
     unfrozen = λ none. absurd (some none);
     frozen = λ same. repeats;
   }
+
+-- What is given up where it is outrun leaves the gatherer as it may be.
+pub given_up : {J : Type 0} (j : Ghosts J) (s : GathererState) (e : Refusal) (h : GatherState) →
+    IsGatherer j s → s.gather.frozen ≡ None → h ≡ unless_outrun s.gather.frozen e s.gather →
+    IsGatherer j (record s { gather = h })
+given_up j s e h is none left = record {
+  gathering = is.gathering;
+  awaited = is.awaited;
+  unfrozen = λ unfrozen.
+      ⊎_elim (λ same. subst (IsKnown s.of_book) (sym (left ∙ same)) (is.unfrozen none))
+      (λ gone. inl (left ∙ gone)) (outrun_or s.gather.frozen e s.gather);
+  frozen = λ some. absurd (some (ap (λ (v : GatherState). v.frozen) left ∙
+      outrun_unfrozen s.gather.frozen e s.gather none));
+}

@@ -7,7 +7,7 @@ use denote.Struct.Field.{u8-field}
 use Rattle.std.proofs.Crossing.{crosses}
 use Rattle.std.specs.contracts.sync.Mutex as mutex
 use Rattle.disk_model.specs.declared.disk.Disk as disks
-use Rattle.blocks.specs.contracts.pending.Pending.{the_row}
+use Rattle.records.specs.contracts.pending.Pending.{the_row}
 use Rattle.boosted.specs.declared.Boosted as boosted
 use Rattle.catalog.specs.declared.parts.Parts as collections
 use Rattle.catalog.specs.declared.part.Part as part
@@ -28,8 +28,8 @@ use Rattle.catalog.proofs.names.Names.TheSendSync as label_lists
 use Rattle.catalog.proofs.shelf.CatalogShelf.TheSendSync as quarters
 use Rattle.catalog.proofs.four.Four.TheSendSync as fours
 use Rattle.abstract_locks.proofs.table.NeedTable.TheSendSync as tables
-use Rattle.shelf.proofs.Shelf.TheSendSync as shelves
-use Rattle.machine.proofs.accounts.Accounts.TheSendSync as accounts
+use Rattle.steps.proofs.shelf.Shelf.TheSendSync as shelves
+use Rattle.steps.proofs.transaction_table.TransactionTable.TheSendSync as transactions
 use Rattle.images.proofs.gathering.Gathering.TheSendSync as gatherings
 use Rattle.checkpoint.proofs.keeper.Keeper.TheSendSync as keepers
 use Rattle.group_commit.proofs.accord.Accord.TheSendSync as accords
@@ -53,7 +53,7 @@ use Rattle.group_commit.proofs.twin.TwinFar.TheSendSync as twin_fars
 use Rattle.desks.proofs.budget.Budget.TheSendSync as budgets
 use Rattle.desks.proofs.shelf_desk.ShelfDesk.TheSendSync as shelf_desks
 use Rattle.desks.proofs.signal.Signal.TheSendSync as signals
-use Rattle.waiting.proofs.queue.WaitQueue.TheSendSync as queues
+use Rattle.desks.proofs.queue.WaitQueue.TheSendSync as queues
 use Rattle.clients.proofs.awaiting.Awaiting.TheSendSync as awaitings
 use Rattle.clients.specs.contracts.client.Client as client
 use Rattle.txn.specs.contracts.journal.Journal as journal
@@ -81,7 +81,7 @@ pub ruleset parts = (
   shelves.the_send,
   fours.the_send,
   fours.the_sync,
-  accounts.the_send,
+  transactions.the_send,
   gatherings.the_send,
   keepers.the_send,
   accords.the_sync,
@@ -110,8 +110,8 @@ pub ruleset parts = (
 )
 
 -- What clients share of a store may be shared, and a client may be sent, where the names and the
--- shelves may be sent. B: the collections, P: a copy of one of them, N: their names, T: a quarter of
--- them.
+-- shelves may be sent. B: the collections, P: a copy of one of them, N: their names, T: a quarter
+-- of them.
 module _ (J : RattleType) (n : namings.Ghosts J.Denot) (J_send : IsSend J) (J_sync : IsSync J)
     (B P N T : RattleType) (b : collections.Ghosts B.Denot P.Denot N.Denot T.Denot)
     (c : boosted.Ghosts B.Denot u8-field.Value) (p : part.Ghosts P.Denot)

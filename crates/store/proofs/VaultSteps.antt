@@ -9,20 +9,20 @@ use Rattle.std.specs.Borrow.{MutBor}
 use Rattle.std.specs.Prelude.{IfErr}
 use Rattle.std.specs.List.{AllByRecursion}
 use Rattle.disk_model.specs.Disk.{Rises}
-use Rattle.gate_block.specs.Area.{size_of, position_of}
+use Rattle.gate_block.specs.Area.{size_of, offset_of}
 use Rattle.checkpoint.specs.declared.turn.Turn.{Turn}
 use mathlib.Core.List.{IsPrefix}
 use Rattle.calls.specs.Contents.{Collection}
 use Rattle.calls.specs.declared.refusal.Refusal.{Refusal}
 use Rattle.disk_model.specs.declared.disk.Disk as disks
-use Rattle.record_format.specs.declared.record.Record.{Record}
-use Rattle.blocks.specs.declared.block.Image.{Image}
-use Rattle.blocks.specs.Carried.{Carries}
-use Rattle.blocks.proofs.Carrying.{joined-append, carries_parts}
+use Rattle.records.specs.declared.record.Record.{Record}
+use Rattle.records.specs.declared.block.Image.{Image}
+use Rattle.records.specs.Carried.{Carries}
+use Rattle.records.proofs.Carrying.{joined-append, carries_parts}
 use Rattle.images.specs.Gathers.{GatherState, Packs}
-use Rattle.machine.specs.Machines.{resting}
-use Rattle.repetition.specs.Journals.{records_in}
-use Rattle.repetition.specs.Steps.{State}
+use Rattle.steps.specs.Machines.{resting}
+use Rattle.replay.specs.Journals.{records_in}
+use Rattle.replay.specs.Steps.{State}
 use Rattle.txn.specs.Books.{BookState}
 use Rattle.checkpoint.specs.ImageAnswers.{BeginAnswers}
 use Rattle.checkpoint.specs.Keepers.{KeeperState, IsFresh, IsPast, TurnAnswers}
@@ -33,12 +33,13 @@ use Rattle.checkpoint.specs.DiskHeads.{IsInUse}
 use Rattle.checkpoint.specs.Stored.{AreReadTo}
 use Rattle.checkpoint.proofs.GroupLemmas.{uncrossed_front}
 use Rattle.checkpoint.proofs.ReceivedLemmas.{received_none}
-use Rattle.world.specs.Pasts.{mark_behind, mark_flipped}
+use Rattle.engine.specs.Marks.{mark_behind, mark_flipped}
 use Rattle.recovery.proofs.OpenedStores as openings
-use Rattle.world.proofs.GatherLemmas.{begun_same}
-use Rattle.world.proofs.KeeperSteps.{mark_rises, mark_is, some_received}
-use Rattle.world.proofs.PastLemmas.{prefix_take, yields_fewer}
-use Rattle.group_commit.specs.Accords.{AccordState, nothing_gathered}
+use Rattle.engine.proofs.KeeperLemmas.{begun_same}
+use Rattle.engine.proofs.KeeperLemmas.{mark_rises, mark_is, some_received}
+use Rattle.checkpoint.proofs.YieldLemmas.{prefix_take, yields_fewer}
+use Rattle.group_commit.specs.Accords.{AccordState}
+use Rattle.images.specs.Gathers.{nothing_gathered}
 use Rattle.group_commit.specs.Ends.{Receives, WasEmptyAt}
 use Rattle.group_commit.specs.declared.mark.Raised.{Raised}
 use Rattle.group_commit.specs.Marks.{KeeperMark, top}
@@ -334,7 +335,8 @@ module _ {D : Type 0} (g : disks.Ghosts D) where
         subst (λ (m : KeeperMark). IsVault j g l receiver m near) (sym now_is)
         (vault_images k receiver seat near is l keeps rises (stops_by e seat.stops)
         (caused seat.stops is.caused))
-    vault_flips k receiver seat near is (Ok place) l now keeps rises flipped only_now caused now_is =
+    vault_flips k receiver seat near is (Ok place) l now keeps rises flipped only_now caused
+        now_is =
         let laid = vault_images k receiver seat near is l keeps rises seat.stops
         (caused seat.stops is.caused) in
         subst (λ (m : KeeperMark). IsVault j g l receiver m near) (sym now_is) (record {
@@ -360,30 +362,31 @@ module _ {D : Type 0} (g : disks.Ghosts D) where
         (l : KeeperState D) (r : Result (Unit {0}) Refusal) → Packs near.gather image →
         BeginAnswers k image behind l r → BeginKeeps g image r k l → (stops : ℕ) →
         (1 ≤ stops → l.failed ≡ true) → IsVault j g l receiver (record seat { stops = stops }) near
-    vault_begins k receiver seat near is image behind l r packs answers keeps stops caused = record {
-      handoff = is.handoff;
-      mark = is.mark;
-      awaited = is.awaited;
-      marked = omega (arith, is.marked, (begun_same k image behind l r answers).1);
-      caused = caused;
-      noted = is.noted;
-      received = λ s records state groups recorded carried begin apart.
-          let had = is.received s records state groups recorded carried begin apart in
-          let there = is.noted (some_frozen near.gather image packs) in
-          let of = each_among (PacksImages j.origin.format j.origin.start j.origin.wear records
-          state) near.gather
-          receiver.noted
-          recorded.stand there image packs in
-          let kept = keeps j.origin.format j.origin.start j.origin.wear records state
-          (frozen_ends receiver.noted)
-          had.0.0
-          receiver.received of.begun of.is_for of.stands had.0.1 in
-          let same = (begun_same k image behind l r answers).1 in (
-            (begun_with of.begun had.0.0 r, kept.0),
-            leaves_on records k l had.1 kept.1,
-            kept_on records k l seat.raised had.2 kept.1 (omega (arith, same)),
-          );
-    }
+    vault_begins k receiver seat near is image behind l r packs answers keeps stops caused =
+        record {
+          handoff = is.handoff;
+          mark = is.mark;
+          awaited = is.awaited;
+          marked = omega (arith, is.marked, (begun_same k image behind l r answers).1);
+          caused = caused;
+          noted = is.noted;
+          received = λ s records state groups recorded carried begin apart.
+              let had = is.received s records state groups recorded carried begin apart in
+              let there = is.noted (some_frozen near.gather image packs) in
+              let of = each_among (PacksImages j.origin.format j.origin.start j.origin.wear records
+              state) near.gather
+              receiver.noted
+              recorded.stand there image packs in
+              let kept = keeps j.origin.format j.origin.start j.origin.wear records state
+              (frozen_ends receiver.noted)
+              had.0.0
+              receiver.received of.begun of.is_for of.stands had.0.1 in
+              let same = (begun_same k image behind l r answers).1 in (
+                (begun_with of.begun had.0.0 r, kept.0),
+                leaves_on records k l had.1 kept.1,
+                kept_on records k l seat.raised had.2 kept.1 (omega (arith, same)),
+              );
+        }
 
     -- that nothing is frozen is known of every keeper
     pub vault_forgets : (k : KeeperState D) (receiver : ReceiverState) (seat : KeeperMark)
@@ -409,7 +412,7 @@ abbrev Answered : {D : Type 0} → disks.Ghosts D → KeeperState D → KeeperSt
 Answered g k l before after r =
     TurnAnswers k.held (λ bs. Receives before bs after) (WasEmptyAt before) k.failed k.mark
     (λ b. b.end ≤ k.covered) (λ b. IsPast k.stage b.end)
-    (λ b. size_of k.area < position_of k.area + length b.bytes.items)
+    (λ b. size_of k.area < offset_of k.area + length b.bytes.items)
     ((l.area ≡ k.area) × (l.disk ≡ k.disk)) (Rises (g.fault_count k.disk) (g.fault_count l.disk))
     r l.held l.mark l.failed
 
@@ -447,17 +450,17 @@ pub turn_brings : {D : Type 0} (g : disks.Ghosts D) (k l : KeeperState D)
 turn_brings g k l before after left back r answers keeps stage =
     let got = some_received k.held (λ bs. Receives before bs after) (WasEmptyAt before) k.failed
     l.failed k.mark l.mark (λ b. b.end ≤ k.covered) (λ b. IsPast k.stage b.end)
-    (λ b. size_of k.area < position_of k.area + length b.bytes.items)
+    (λ b. size_of k.area < offset_of k.area + length b.bytes.items)
     ((l.area ≡ k.area) × (l.disk ≡ k.disk)) (Rises (g.fault_count k.disk) (g.fault_count l.disk))
     r l.held answers in
     let rises = mark_rises k.held (λ bs. Receives before bs after) (WasEmptyAt before) k.failed
     l.failed k.mark l.mark (λ b. b.end ≤ k.covered) (λ b. IsPast k.stage b.end)
-    (λ b. size_of k.area < position_of k.area + length b.bytes.items)
+    (λ b. size_of k.area < offset_of k.area + length b.bytes.items)
     ((l.area ≡ k.area) × (l.disk ≡ k.disk)) (Rises (g.fault_count k.disk) (g.fault_count l.disk))
     r l.held answers in
     let is = mark_is k.held (λ bs. Receives before bs after) (WasEmptyAt before) k.failed
     l.failed k.mark l.mark (λ b. b.end ≤ k.covered) (λ b. IsPast k.stage b.end)
-    (λ b. size_of k.area < position_of k.area + length b.bytes.items)
+    (λ b. size_of k.area < offset_of k.area + length b.bytes.items)
     ((l.area ≡ k.area) × (l.disk ≡ k.disk)) (Rises (g.fault_count k.disk) (g.fault_count l.disk))
     r l.held answers in
     let same = sym got.1.same in

@@ -8,17 +8,19 @@ use Rattle.boosted.specs.Meaning.{Meaning}
 use Rattle.catalog.specs.declared.four.Four.{Four}
 use Rattle.catalog.specs.Making.{Making}
 use Rattle.catalog.specs.Woven.{Label}
-use Rattle.shelf.specs.Shelves.{ShelfState}
+use Rattle.steps.specs.Shelves.{ShelfState}
 use Rattle.images.specs.Gathers.{GatherState, Repeats}
 use Rattle.images.specs.Gatherings.{CanGoOn}
 use Rattle.txn.specs.Parts.{IsCopy}
 use Rattle.txn.specs.Shelved.{JournalState}
-use Rattle.txn.specs.Books.{BookState, position}
+use Rattle.txn.specs.Books.{BookState, lsn}
 use Rattle.txn.specs.Freezing.{FreezeAnswers}
 use Rattle.checkpoint.specs.ImageAnswers.{HoldAnswers}
+use Rattle.engine.specs.Gatherings.{if_held, unless_outrun}
 use Rattle.checkpoint.specs.Keepers.{KeeperState}
 use Rattle.checkpoint.specs.Keeping.{HoldKeeps}
-use Rattle.group_commit.specs.Accords.{AccordState, nothing_gathered}
+use Rattle.group_commit.specs.Accords.{AccordState}
+use Rattle.images.specs.Gathers.{nothing_gathered}
 use Rattle.group_commit.specs.Lines as lines
 use Rattle.group_commit.specs.Orders.{SenderState}
 use Rattle.group_commit.specs.Twins.{EndState}
@@ -54,8 +56,8 @@ module _ {J S T N P : Type 0} (j : Ghosts J) (labels : N → List Label)
     (holds : T → ℕ → Content → Type 0) (collection : P → Collection) (meaning : Meaning S ℕ)
     (making : Making S) (collections : S → List Collection) (whole : N → Four T → S)
     (fits : N → Four T → Type 0) where
-  -- The journal is of a store. Where what is gathered may be gone on with, the part is a copy of the
-  -- next collection of the book, or there was no memory for one.
+  -- The journal is of a store. Where what is gathered may be gone on with, the part is a copy of
+  -- the next collection of the book, or there was no memory for one.
   pub record IsGivenTo (k : JournalState N) (nears : Four (EndState (Touch (ShelfState T))))
       (seat : lines.BookState) (sender : SenderState) (near : AccordState) (g : GatherState)
       (part : Result (Option P) Refusal) : Type 0 where
@@ -71,7 +73,13 @@ abbrev pub Froze : {D : Type 0} → disks.Ghosts D → BookState (List Collectio
     BookState (List Collection) → KeeperState D → GatherState → Type 0
 Froze g b k m (Ok done) a c l n =
     FreezeAnswers (λ v. v) b m (Ok done) c n ×
-    HoldAnswers k (record { end = position b; place = b.places }) l a ×
-    HoldKeeps g (position b) a k l
+    HoldAnswers k (record { end = lsn b; place = b.places }) l a ×
+    HoldKeeps g (lsn b) a k l
 Froze g b k m (Err e) a c l n =
     FreezeAnswers (λ v. v) b m (Err e) c n × (a ≡ Err e) × (l ≡ k)
+
+-- what is left of what was gathered where the book froze so, and the keeper was asked so
+abbrev pub left_gathered : Result (Unit {0}) Refusal → Result (Unit {0}) Refusal → GatherState →
+    GatherState
+left_gathered (Ok done) held g = if_held held g
+left_gathered (Err e) held g = unless_outrun g.frozen e g

@@ -2,12 +2,12 @@
 use Rattle.std.specs.Prelude.{◌≡◌, ◌≢◌, ◌⊎◌, ℕ, ◌≤◌, true, List, Some, None, All}
 use mathlib.Core.List.{IsPrefix}
 use Rattle.disk_model.specs.declared.disk.Disk as disks
-use Rattle.record_format.specs.declared.record.Record.{Record}
-use Rattle.blocks.specs.declared.block.Block.{Block}
-use Rattle.blocks.specs.Carried.{Carries}
+use Rattle.records.specs.declared.record.Record.{Record}
+use Rattle.records.specs.declared.block.Block.{Block}
+use Rattle.records.specs.Carried.{Carries}
 use Rattle.images.specs.Gathers.{GatherState, FrozenState}
-use Rattle.repetition.specs.Journals.{records_in}
-use Rattle.repetition.specs.Steps.{State}
+use Rattle.replay.specs.Journals.{records_in}
+use Rattle.replay.specs.Steps.{State}
 use Rattle.checkpoint.specs.declared.stage.Stage.{Stage}
 use Rattle.checkpoint.specs.Crash.{YieldsUpTo}
 use Rattle.checkpoint.specs.Keepers.{KeeperState}
@@ -58,10 +58,10 @@ ReceivesAny j g noted received raised keeper =
 -- What is known to be frozen is awaited: the keeper holds the end of its image.
 abbrev pub Awaits : Stage → GatherState → Type 0
 Awaits stage g = (f : FrozenState) → g.frozen ≡ Some f →
-    stage ≡ Stage.Awaited (record { end = f.marks.end; place = f.marks.place })
+    stage ≡ Stage.Awaited (record { end = f.image_head.end; place = f.image_head.place })
 
--- The mark is not past what the keeper has kept. The keeper's seat has set the failed flag only where
--- the keeper has failed. What is known to be frozen was noted.
+-- The mark is not past what the keeper has kept. The keeper's seat has set the failed flag only
+-- where the keeper has failed. What is known to be frozen was noted.
 pub record IsVault {J D : Type 0} (j : Ghosts J) (g : disks.Ghosts D) (keeper : KeeperState D)
     (receiver : ReceiverState) (seat : KeeperMark) (near : AccordState) : Type 0 where
   pub handoff : receiver.table ≡ j.handoff

@@ -6,7 +6,7 @@ use crate::gatherer::Gatherer;
 use crate::vault::Vault;
 use calls::Refusal;
 use catalog::Catalog;
-use desks::{Desk, Fill, Lock, Naming, Shared, Shelves};
+use desks::{Desk, Fill, Lock, Naming, Order, Shared, Shelves, lock_next};
 use disk_model::Disk;
 use group_commit::Watcher;
 use records::Coded;
@@ -112,7 +112,7 @@ impl<'s, D: Disk, J: Naming, B: Coded> Checkpointer<'s, D, J, B> {
     /// How full the store is. It takes the journal's lock once.
     pub fn fill<R: Wait>(&self, rt: &R) -> Fill {
         let desk = self.desk;
-        desk.lock(rt).fill()
+        desk.lock(rt, &mut Order::new()).fill()
     }
 
     // Writes a piece of the image in progress, or makes it the store, and then the journal's side
@@ -123,10 +123,11 @@ impl<'s, D: Disk, J: Naming, B: Coded> Checkpointer<'s, D, J, B> {
         ensures none { IfNone result (self.new ≡ self.old) }
     {
         let (desk, vault) = (self.desk, self.vault);
-        let mut vault = vault.lock(rt);
+        let mut order = Order::new();
+        let mut vault = lock_next(rt, vault, &mut order);
         let done = vault.lay(self.shared, &mut self.watcher);
         if let Some(Ok(Checkpoint::Flipped(_))) = &done {
-            desk.lock(rt).note_image(vault.extent());
+            desk.lock(rt, &mut order).note_image(vault.extent());
         }
         done
     }
@@ -136,14 +137,16 @@ impl<'s, D: Disk, J: Naming, B: Coded> Checkpointer<'s, D, J, B> {
         ensures tells { CheckTells self.old result self.new }
         ensures refused { IfErr result IsCheckRefusal }
     {
-        let gatherer = self.gatherer;
-        gatherer.lock(rt).turn(
+        let mut order = Order::new();
+        let mut gatherer = lock_next(rt, self.gatherer, &mut order);
+        gatherer.turn(
             rt,
             self.shared,
             self.shelves,
             self.desk,
             self.vault,
             &mut self.watcher,
+            order,
         )
     }
 }

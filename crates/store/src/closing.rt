@@ -1,11 +1,11 @@
 // The end of a store.
 ghost use Rattle.std.specs.Prelude.{◌≡◌};
-ghost use mathlib.Core.List.{IsPrefix};
 ghost use Rattle.catalog.specs.Fours.{Which, pick};
 ghost use Rattle.group_commit.specs.Accords.{AccordState};
+ghost use Rattle.group_commit.specs.Histories.{AreCounted};
 ghost use Rattle.group_commit.specs.Marks.{AreNoted};
 ghost use Rattle.desks.specs.Desks.{IsDesk};
-ghost use Rattle.clients.specs.Known.{seen_of, counts_of};
+ghost use Rattle.clients.specs.Known.{all_left};
 ghost use Rattle.desks.specs.Told.{told_book};
 ghost use Rattle.desks.specs.Touches.{Leads};
 ghost use Rattle.store.specs.Closing.{Closes};
@@ -18,21 +18,21 @@ use desks::{Desk, Naming, Quarter, Shared, ShelfDesk, Shelves, Touch};
 use disk_model::Disk;
 use group_commit::{BookSeat, KeeperSeat, Sender, Twin, TwinNear};
 use records::Coded;
-use shelf::Shelf;
+use steps::Shelf;
 use txn::Book;
 
-/// The book and the keeper of a store that nobody shares any more.
+/// The book and the keeper of a store that nobody shares any more, and how many clients it made.
 pub(crate) fn close<D: Disk, J: Naming, B: Coded>(
     shared: &Shared<J>,
     shelves: Shelves<J, B>,
     desk: Desk<J, B>,
     vault: Vault<D, J>,
     last: Option<Seen<J>>,
-) -> (Book<B>, Keeper<D>)
-    ensures { Closes ⟦<J as Naming>⟧ ⟦<D as Disk>⟧ (seen_of last) (counts_of last)
+) -> (Book<B>, Keeper<D>, u64)
+    ensures { Closes ⟦<J as Naming>⟧ ⟦<D as Disk>⟧ (all_left last) result.2
         (told_book B.collections result.0) result.1 }
 {
-    let (book, mut seat, mut sender) = book_of(shelves, desk);
+    let (book, seat, mut sender, clients) = book_of(shelves, desk);
     let Vault {
         keeper,
         mut receiver,
@@ -40,21 +40,23 @@ pub(crate) fn close<D: Disk, J: Naming, B: Coded>(
         ..
     } = vault;
     shared.handoff.compare(&mut sender, &mut receiver);
-    look_back(shared, &mut seat, &mut mark, last);
-    (book, keeper)
+    look_back(shared, seat, &mut mark, last);
+    (book, keeper, clients)
 }
 
-// The book that the journal and the four shelves are, with its seat and the sending end.
+// The book that the journal and the four shelves are, with its seat and the sending end, and how
+// many clients were made.
 fn book_of<J: Naming, B: Coded>(
     shelves: Shelves<J, B>,
     desk: Desk<J, B>,
-) -> (Book<B>, BookSeat, Sender)
-    ensures { (near : AccordState) ×
+) -> (Book<B>, BookSeat, Sender, u64)
+    ensures desk { (near : AccordState) ×
         IsDesk ⟦<J as Naming>⟧ (told_book B.collections result.0) result.1 result.2 near }
+    ensures clients { result.3 ≡ result.1.clients }
 {
-    let (journal, mut nears, seat, sender) = desk.into_parts();
+    let (journal, mut nears, seat, sender, clients) = desk.into_parts();
     let shelves = compare_all(shelves, &mut nears);
-    (Book::of_shelves(journal, shelves), seat, sender)
+    (Book::of_shelves(journal, shelves), seat, sender, clients)
 }
 
 // The four shelves, which are as the near ends know them.
@@ -94,23 +96,34 @@ fn compare<J: Naming, B: Coded, Q: Quarter>(
     desk.into_shelf()
 }
 
-// What the last client had seen begins the history, and the mark was brought to what it had loaded.
+// What the clients had seen begins the history, which may have steps of no others, and the mark was
+// brought to what they had loaded.
 fn look_back<J: Naming>(
     shared: &Shared<J>,
-    seat: &mut BookSeat,
+    seat: BookSeat,
     mark: &mut KeeperSeat,
     last: Option<Seen<J>>,
 )
-    requires seat { seat.old.table ≡ J.line }
+    requires seat { seat.table ≡ J.line }
     requires mark { mark.old.table ≡ J.mark }
-    ensures seen { IsPrefix (seen_of last) seat.old.all }
-    ensures noted { AreNoted (counts_of last) mark.old.raised }
+    ensures counted { AreCounted (all_left last).clients seat.clients seat.all }
+    ensures noted { AreNoted (all_left last).counts mark.old.raised }
 {
+    let mut seat = seat;
     match last {
-        Some(mut last) => {
-            shared.line.compare(seat, &mut last.line);
-            shared.mark.compare(mark, &mut last.watcher);
+        Some(
+            Seen {
+                line,
+                mut watcher,
+                ..
+            },
+        ) => {
+            shared.mark.compare(mark, &mut watcher);
+            shared.line.end(seat, line);
         }
-        None => {}
+        None => {
+            let nobody = shared.line.nobody(&mut seat);
+            shared.line.end(seat, nobody);
+        }
     }
 }

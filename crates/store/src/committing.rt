@@ -6,7 +6,7 @@ use crate::vault::Vault;
 use calls::Refusal;
 use catalog::Catalog;
 use checkpoint::Turn;
-use desks::{Desk, Lock, Naming, Shared};
+use desks::{Desk, Lock, Naming, Order, Shared, lock_next};
 use disk_model::Disk;
 use engine::told;
 use group_commit::{Stopper, Watcher};
@@ -81,9 +81,10 @@ impl<'s, D: Disk, J: Naming, B: Coded> Committer<'s, D, J, B> {
     {
         let desk = self.desk;
         let vault = self.vault;
-        let mut vault = vault.lock(rt);
+        let mut order = Order::new();
+        let mut vault = lock_next(rt, vault, &mut order);
         let cut = desk
-            .lock(rt)
+            .lock(rt, &mut order)
             .cut(rt, self.shared, vault.room(), vault.extent());
         let turned = vault.turn(rt, self.shared, &mut self.watcher);
         told(cut.err(), turned)
@@ -92,7 +93,7 @@ impl<'s, D: Disk, J: Naming, B: Coded> Committer<'s, D, J, B> {
     /// How many bytes the area in use has behind its blocks. It takes the keeper's lock.
     pub fn free<R: Wait>(&self, rt: &R) -> u64 {
         let vault = self.vault;
-        vault.lock(rt).room().free
+        lock_next(rt, vault, &mut Order::new()).room().free
     }
 
     /// Tells every client that waits for a ticket which is not kept yet, now or later, that it is

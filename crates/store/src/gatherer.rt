@@ -1,19 +1,19 @@
 // What is gathered of the book for an image, up to where the keeper begins it.
-ghost use Rattle.std.specs.Prelude.{◌≡◌, ◌≢◌, ◌⊎◌, ◌↔◌, None, Err, OnOk, OnErr, IfOk, IfErr};
+ghost use Rattle.std.specs.Prelude.{◌≡◌, ◌≢◌, ◌<◌, ◌⊎◌, ◌↔◌, None, Err, OnOk, OnErr, IfOk, IfErr};
 ghost use Rattle.std.specs.Prelude.{IsSome, IsTrue, IfSome, IfNone, Result, length, string_bytes};
 ghost use Rattle.calls.specs.Names.{IsName};
 ghost use Rattle.calls.specs.declared.refusal.Refusal.{Refusal};
 ghost use Rattle.catalog.specs.declared.four.Four.{Four};
 ghost use Rattle.catalog.specs.Fours.{which_of};
 ghost use Rattle.catalog.specs.Shelving.{CopyRefused};
-ghost use Rattle.shelf.specs.Shelves.{ShelfState};
-ghost use Rattle.images.specs.Gathers.{Packs};
+ghost use Rattle.steps.specs.Shelves.{ShelfState};
+ghost use Rattle.images.specs.Gathers.{GatherState, Packs};
 ghost use Rattle.images.specs.Gatherings.{CanGoOn};
-ghost use Rattle.txn.specs.declared.steps.Action.{Action};
+ghost use Rattle.txn.specs.declared.actions.Action.{Action};
 ghost use Rattle.txn.specs.Freezing.{IsGatheredOf};
 ghost use Rattle.txn.specs.Parts.{IsCopy};
 ghost use Rattle.txn.specs.Shelved.{book_state, IsBook};
-ghost use Rattle.group_commit.specs.Accords.{nothing_gathered};
+ghost use Rattle.images.specs.Gathers.{nothing_gathered};
 ghost use Rattle.group_commit.specs.Lines.{stepped};
 ghost use Rattle.group_commit.specs.Orders.{SenderState, noting, noting_too};
 ghost use Rattle.group_commit.specs.Twins.{EndState};
@@ -21,28 +21,30 @@ ghost use Rattle.desks.specs.declared.touch.Touch.{Touch};
 ghost use Rattle.desks.specs.Notes.{alone};
 ghost use Rattle.desks.specs.Told.{told_book};
 ghost use Rattle.desks.specs.Touches.{IsJournalDesk};
-ghost use Rattle.store.specs.Gatherers.{IsKnown, IsGivenTo, as_next, Froze};
+ghost use Rattle.store.specs.Gatherers.{IsKnown, IsGivenTo, as_next, Froze, left_gathered};
 ghost use Rattle.store.specs.Turns.{CheckTells, FailsWith, IsPrepared, IsCheckRefusal};
 ghost use Rattle.store.specs.Turns.{IsCopyRefusal, IsFreezeRefusal};
 
 use crate::checkpointing::Checkpoint;
 use crate::vault::{Vault, failure_told};
-use blocks::Image;
 use calls::Refusal;
 use catalog::{Part, Shelved};
 use checkpoint::Keeper;
-use desks::{Desk, Lock, Naming, Quarter, Shared, ShelfDesk, Shelves, note_alone};
+use desks::{
+    Desk, Lock, Naming, Order, Quarter, Ranked, Shared, ShelfDesk, Shelves, lock_next, note_alone,
+};
 use disk_model::Disk;
+use engine::{give_up_outrun, hold_frozen, pack};
 use group_commit::{Accord, BookSeat, Far, Handoff, Near, OneGather, Receiver, Sender, Watcher};
 use images::Gather;
-use records::Coded;
+use records::{Coded, Image};
+use replay::blocks_len;
 use std::alloc::Global;
 use std::marker::{Brand, Model, PhantomData};
 use std::mem;
 use std::snapshot::Snapshot;
 use std::sync::{Mutex, Wait};
 use txn::Journal;
-use undoing::blocks_len;
 
 /// What is gathered of the book, with the far ends of what the journal's side and the keeper's know
 /// of it. It belongs to the store, so whichever checkpointer takes the next turn goes on with it.
@@ -89,6 +91,14 @@ impl<J: Naming, B: Coded> Model for Gatherer<J, B> {
     }) };
 }
 
+impl<J: Naming, B: Coded> Ranked for Gatherer<J, B> {
+    ghost level = { 1 };
+
+    fn level() -> u8 {
+        1
+    }
+}
+
 impl<J: Naming, B: Coded> Gatherer<J, B> {
     /// Nothing is gathered. It takes no memory.
     pub(crate) fn new(alloc: Global, of_book: Far, of_keeper: Far) -> Self
@@ -123,19 +133,21 @@ impl<J: Naming, B: Coded> Gatherer<J, B> {
         desk: &Lock<Desk<J, B>>,
         vault: &Mutex<Vault<D, J>>,
         watcher: &mut Watcher,
+        order: Order,
     ) -> Result<Checkpoint, Refusal>
-        requires { watcher.old.table ≡ J.mark }
+        requires watcher { watcher.old.table ≡ J.mark }
+        requires order { order < 2 }
         ensures tells { CheckTells watcher.old result watcher.new }
         ensures prepared { IfOk result IsPrepared }
         ensures refused { IfErr result IsCheckRefusal }
     {
-        if self.gather.marks().is_some() {
-            return self.pack(rt, shared, vault, watcher);
+        if self.gather.image_head().is_some() {
+            return self.pack(rt, shared, vault, watcher, order);
         }
-        if let Some(frozen) = self.freeze_whole(rt, shared, shelves, desk, vault, watcher) {
+        if let Some(frozen) = self.freeze_whole(rt, shared, shelves, desk, vault, watcher, order) {
             return frozen;
         }
-        self.copy(rt, shared, shelves, desk)
+        self.copy(rt, shared, shelves, desk, order)
     }
 
     // Freezes the book where all collections are copied. None where they are not, or a gathering is
@@ -148,7 +160,9 @@ impl<J: Naming, B: Coded> Gatherer<J, B> {
         desk: &Lock<Desk<J, B>>,
         vault: &Mutex<Vault<D, J>>,
         watcher: &mut Watcher,
+        order: Order,
     ) -> Option<Result<Checkpoint, Refusal>>
+        requires order { order < 2 }
         requires watcher { watcher.old.table ≡ J.mark }
         requires unfrozen { self.old.gather.frozen ≡ None }
         ensures tells { IfSome result (λ r. CheckTells watcher.old r watcher.new) }
@@ -160,7 +174,7 @@ impl<J: Naming, B: Coded> Gatherer<J, B> {
         if !mem::replace(&mut self.is_whole, false) {
             return None;
         }
-        match self.freeze(rt, shared, shelves, desk, vault, watcher) {
+        match self.freeze(rt, shared, shelves, desk, vault, watcher, order) {
             Err(refusal) if goes_on(refusal) => None,
             frozen => Some(frozen),
         }
@@ -174,19 +188,21 @@ impl<J: Naming, B: Coded> Gatherer<J, B> {
         shared: &Shared<J>,
         shelves: &Shelves<J, B>,
         desk: &Lock<Desk<J, B>>,
+        order: Order,
     ) -> Result<Checkpoint, Refusal>
-        requires { self.old.gather.frozen ≡ None }
+        requires unfrozen { self.old.gather.frozen ≡ None }
+        requires order { order < 3 }
         ensures prepared { IfOk result IsPrepared }
         ensures refused { IfErr result IsCopyRefusal }
     {
-        match self.copy_next(rt, shared, shelves, desk) {
+        match self.copy_next(rt, shared, shelves, desk, order) {
             Ok(more) => {
                 self.is_whole = !more;
                 self.gather.catch_up()?;
                 Ok(Checkpoint::Gathered)
             }
             Err(refusal) => {
-                give_up(self.alloc, refusal, &mut self.gather);
+                give_up_outrun(self.alloc, refusal, &mut self.gather);
                 Err(refusal)
             }
         }
@@ -200,13 +216,15 @@ impl<J: Naming, B: Coded> Gatherer<J, B> {
         shared: &Shared<J>,
         shelves: &Shelves<J, B>,
         desk: &Lock<Desk<J, B>>,
+        order: Order,
     ) -> Result<bool, Refusal>
-        requires { self.old.gather.frozen ≡ None }
+        requires unfrozen { self.old.gather.frozen ≡ None }
+        requires order { order < 3 }
         ensures unfrozen { self.new.gather.frozen ≡ None }
         ensures refused { IfErr result IsCopyRefusal }
     {
         for _ in rt.forever() {
-            if let Some(copied) = self.try_copy(rt, shared, shelves, desk) {
+            if let Some(copied) = self.try_copy(rt, shared, shelves, desk, order) {
                 return copied;
             }
         }
@@ -221,14 +239,17 @@ impl<J: Naming, B: Coded> Gatherer<J, B> {
         shared: &Shared<J>,
         shelves: &Shelves<J, B>,
         desk: &Lock<Desk<J, B>>,
+        order: Order,
     ) -> Option<Result<bool, Refusal>>
-        requires { self.old.gather.frozen ≡ None }
+        requires unfrozen { self.old.gather.frozen ≡ None }
+        requires order { order < 3 }
         ensures unfrozen { self.new.gather.frozen ≡ None }
         ensures refused { IfSome result (λ r. IfErr r IsCopyRefusal) }
     {
-        let found = self.find_next(shared, &mut desk.lock(rt));
+        let mut finding = order;
+        let found = self.find_next(shared, &mut desk.lock(rt, &mut finding));
         match found {
-            Ok(next) => self.copy_at(rt, shared, shelves, desk, &next),
+            Ok(next) => self.copy_at(rt, shared, shelves, desk, &next, order),
             Err(gathered) => Some(gathered),
         }
     }
@@ -268,7 +289,9 @@ impl<J: Naming, B: Coded> Gatherer<J, B> {
         shelves: &Shelves<J, B>,
         desk: &Lock<Desk<J, B>>,
         next: &Next,
+        order: Order,
     ) -> Option<Result<bool, Refusal>>
+        requires order { order < 3 }
         requires number { next.now.at ≡ length self.old.gather.parts }
         requires name { IsName (string_bytes next.now.name) }
         requires unfrozen { self.old.gather.frozen ≡ None }
@@ -276,15 +299,15 @@ impl<J: Naming, B: Coded> Gatherer<J, B> {
         ensures refused { IfSome result (λ r. IfErr r IsCopyRefusal) }
     {
         if next.at % 4 == 0 {
-            return self.copy_on(rt, shared, shelves, &shelves.first, desk, next);
+            return self.copy_on(rt, shared, shelves, &shelves.first, desk, next, order);
         }
         if next.at % 4 == 1 {
-            return self.copy_on(rt, shared, shelves, &shelves.second, desk, next);
+            return self.copy_on(rt, shared, shelves, &shelves.second, desk, next, order);
         }
         if next.at % 4 == 2 {
-            return self.copy_on(rt, shared, shelves, &shelves.third, desk, next);
+            return self.copy_on(rt, shared, shelves, &shelves.third, desk, next, order);
         }
-        self.copy_on(rt, shared, shelves, &shelves.fourth, desk, next)
+        self.copy_on(rt, shared, shelves, &shelves.fourth, desk, next, order)
     }
 
     // Copies the collection under the lock of this shelf, once those who wait for it have had it.
@@ -297,7 +320,9 @@ impl<J: Naming, B: Coded> Gatherer<J, B> {
         shelf: &Lock<ShelfDesk<J, B, Q>>,
         desk: &Lock<Desk<J, B>>,
         next: &Next,
+        order: Order,
     ) -> Option<Result<bool, Refusal>>
+        requires order { order < 3 }
         requires place { which_of next.now.at ≡ Q.which }
         requires number { next.now.at ≡ length self.old.gather.parts }
         requires name { IsName (string_bytes next.now.name) }
@@ -306,9 +331,11 @@ impl<J: Naming, B: Coded> Gatherer<J, B> {
         ensures refused { IfSome result (λ r. IfErr r IsCopyRefusal) }
     {
         shelf.give_way(rt);
-        let mut held = shelf.lock(rt);
+        let mut order = order;
+        let mut held = shelf.lock(rt, &mut order);
         let part = held.copy(next.at, &next.name);
-        self.gather_copy(shared, shelves, &mut held, &mut desk.lock(rt), next, part)
+        let mut desk = desk.lock(rt, &mut order);
+        self.gather_copy(shared, shelves, &mut held, &mut desk, next, part)
     }
 
     // Goes on with the copy of a collection of the shelf that is held. None, with nothing changed,
@@ -359,7 +386,9 @@ impl<J: Naming, B: Coded> Gatherer<J, B> {
         desk: &Lock<Desk<J, B>>,
         vault: &Mutex<Vault<D, J>>,
         watcher: &mut Watcher,
+        order: Order,
     ) -> Result<Checkpoint, Refusal>
+        requires order { order < 2 }
         requires watcher { watcher.old.table ≡ J.mark }
         requires unfrozen { self.old.gather.frozen ≡ None }
         ensures tells { CheckTells watcher.old result watcher.new }
@@ -367,10 +396,12 @@ impl<J: Naming, B: Coded> Gatherer<J, B> {
         ensures refused { IfErr result IsFreezeRefusal }
         ensures unfrozen { OnErr result (self.new.gather.frozen ≡ None) }
     {
-        let mut vault = vault.lock(rt);
-        let _held = shelves.lock_all(rt);
-        let mut desk = desk.lock(rt);
+        let mut order = order;
+        let mut vault = lock_next(rt, vault, &mut order);
+        let _held = shelves.lock_all(rt, &mut order);
+        let mut desk = desk.lock(rt, &mut order);
         let frozen = freeze(
+            self.alloc,
             shared,
             &mut desk,
             &mut vault,
@@ -385,45 +416,38 @@ impl<J: Naming, B: Coded> Gatherer<J, B> {
                 desk.note_freeze(self.undoing);
                 Ok(Checkpoint::Frozen)
             }
-            Err(refusal) => {
-                give_up(self.alloc, refusal, &mut self.gather);
-                Err(refusal)
-            }
+            Err(refusal) => Err(refusal),
         }
     }
 
-    // Packs what is frozen under no lock, and begins the image under the keeper's, where the undoing
-    // of what was live at the freeze fits behind it.
+    // Packs what is frozen under no lock, and begins the image under the keeper's, where the
+    // undoing of what was live at the freeze fits behind it.
     fn pack<D: Disk, R: Wait>(
         &mut self,
         rt: &R,
         shared: &Shared<J>,
         vault: &Mutex<Vault<D, J>>,
         watcher: &mut Watcher,
+        order: Order,
     ) -> Result<Checkpoint, Refusal>
+        requires order { order < 2 }
         requires watcher { watcher.old.table ≡ J.mark }
         requires frozen { IsSome self.old.gather.frozen }
         ensures tells { CheckTells watcher.old result watcher.new }
         ensures prepared { IfOk result IsPrepared }
         ensures refused { IfErr result IsCheckRefusal }
     {
-        match mem::replace(&mut self.gather, Gather::new(self.alloc)).pack() {
-            Ok(image) => {
-                begin(
-                    shared,
-                    &mut vault.lock(rt),
-                    watcher,
-                    &mut self.of_keeper,
-                    image,
-                    blocks_len(self.undoing),
-                )?;
-                Ok(Checkpoint::Packed)
-            }
-            Err((refusal, gather)) => {
-                self.gather = gather;
-                Err(refusal)
-            }
-        }
+        let image = pack(self.alloc, &mut self.gather)?;
+        let mut order = order;
+        begin(
+            shared,
+            &mut lock_next(rt, vault, &mut order),
+            watcher,
+            &mut self.of_keeper,
+            image,
+            blocks_len(self.undoing),
+        )?;
+        Ok(Checkpoint::Packed)
     }
 }
 
@@ -504,6 +528,7 @@ fn gather_part<J: Naming, B: Coded>(
 // end is held, as the locks of both are. Both ends of the hand-off note what is frozen, and the
 // keeper's side knows it. No device is called.
 fn freeze<D: Disk, J: Naming, B: Coded>(
+    alloc: Global,
     shared: &Shared<J>,
     desk: &mut Desk<J, B>,
     vault: &mut Vault<D, J>,
@@ -522,14 +547,15 @@ fn freeze<D: Disk, J: Naming, B: Coded>(
     ensures ok { OnOk result ((gather.new.frozen ≢ None) ×
         (of_keeper.new ≡ record { table = J.awaited; gather = gather.new })) }
     ensures err { OnErr result ((of_keeper.new ≡ of_keeper.old) ×
-        (gather.new.frozen ≡ None → gather.new ≡ gather.old)) }
+        (gather.new.frozen ≡ None) ×
+        ((gather.new ≡ gather.old) ⊎ (gather.new ≡ nothing_gathered))) }
     ensures refused { IfErr result IsFreezeRefusal }
 {
     shared.gathering.compare(&mut desk.near, of_book);
     shared
         .handoff
         .compare(&mut desk.sender, &mut vault.receiver);
-    let frozen = freeze_journal(&mut desk.journal, &mut vault.keeper, gather);
+    let frozen = freeze_journal(alloc, &mut desk.journal, &mut vault.keeper, gather);
     note_alone::<Brand, _>(&shared.line, &mut desk.seat, &frozen);
     failure_told(&shared.mark, &mut vault.mark, watcher, &frozen);
     frozen?;
@@ -544,8 +570,10 @@ fn freeze<D: Disk, J: Naming, B: Coded>(
     Ok(())
 }
 
-// Freezes the book of the journal, and asks the keeper to hold the end of its image.
+// Freezes the book of the journal, and asks the keeper to hold the end of its image. Where it is
+// refused, what was gathered is as before or given up.
 fn freeze_journal<D: Disk, B: Coded>(
+    alloc: Global,
     journal: &mut Journal<B>,
     keeper: &mut Keeper<D>,
     gather: &mut Gather<B::Part>,
@@ -556,18 +584,16 @@ fn freeze_journal<D: Disk, B: Coded>(
     ensures froze { (f : Four (ShelfState B.Shelf)) → IsBook B.meaning B.making B.collections
         B.whole B.fits journal.old f →
         IsGatheredOf B.collections (book_state B.whole journal.old f) gather.old →
-        (frozen : Result (Unit {0}) Refusal) × Froze ⟦<D as Disk>⟧
+        (frozen : Result (Unit {0}) Refusal) × (taken : GatherState) × Froze ⟦<D as Disk>⟧
         (told_book B.collections (book_state B.whole journal.old f)) keeper.old gather.old frozen
-        result (told_book B.collections (book_state B.whole journal.new f)) keeper.new gather.new }
+        result (told_book B.collections (book_state B.whole journal.new f)) keeper.new taken ×
+        (gather.new ≡ left_gathered frozen result taken) }
     ensures kept { (f : Four (ShelfState B.Shelf)) → IsBook B.meaning B.making B.collections
         B.whole B.fits journal.old f → IsBook B.meaning B.making B.collections B.whole B.fits
         journal.new f }
 {
-    journal.freeze(gather)?;
-    let Some(marks) = gather.marks() else {
-        unreachable!();
-    };
-    keeper.hold(marks.end, marks.place)
+    let frozen = journal.freeze(gather);
+    hold_frozen(alloc, frozen, keeper, gather)
 }
 
 // Begins the image that was packed, where so many bytes behind it stay free: Failed or Full, as it
@@ -592,16 +618,6 @@ fn begin<D: Disk, J: Naming>(
     failure_told(&shared.mark, &mut vault.mark, watcher, &begun);
     shared.awaited.agree::<Brand>(&mut vault.near, far);
     begun
-}
-
-// Gives up what is gathered where that is outrun, or frozen and its end not held.
-fn give_up<P: Part>(alloc: Global, refusal: Refusal, gather: &mut Gather<P>)
-    ensures unfrozen { gather.new.frozen ≡ None }
-    ensures same { (gather.new ≡ gather.old) ⊎ (gather.new ≡ nothing_gathered) }
-{
-    if matches!(refusal, Refusal::Outrun) || gather.marks().is_some() {
-        *gather = Gather::new(alloc);
-    }
 }
 
 // Both ends know what W names. It is there for who picks W.

@@ -39,7 +39,7 @@
 //! ghosts-serve g a = naming_of g.D.Disk a.opened
 //! ```
 //!
-//! **Where its argument stands.** Under the journal's lock is a `Desk` (crate `clients`), which
+//! **Where its argument stands.** Under the journal's lock is a `Desk` (crate `desks`), which
 //! knows what each shelf holds, under a shelf's a `ShelfDesk`, under the keeper's a vault
 //! (`specs/Vaults`): for every history of a book that sent those blocks, the keeper has received
 //! them, and a stop at any moment since the opening leaves a beginning of what it commits, with all

@@ -4,7 +4,7 @@ ghost use Rattle.calls.specs.Contents.{Collection};
 ghost use Rattle.calls.specs.declared.refusal.Refusal.{Refusal};
 ghost use Rattle.calls.specs.Limits.{number_end};
 ghost use Rattle.disk_model.specs.Disk.{ReadsOnly, Rises, IsAtRest};
-ghost use Rattle.repetition.specs.Journals.{StandsFor};
+ghost use Rattle.replay.specs.Journals.{StandsFor};
 ghost use Rattle.txn.specs.Books.{opened};
 ghost use Rattle.checkpoint.specs.Keepers.{IsFresh};
 ghost use Rattle.recovery.specs.Heads.{HasHeader, HasNoHeader};
@@ -85,7 +85,7 @@ struct Parts<B: Coded> {
 
 impl<B: Coded> Model for Parts<B> {
     ghost use Rattle.std.specs.Prelude.{◌≡◌, []};
-    ghost use Rattle.group_commit.specs.Accords.{nothing_gathered};
+    ghost use Rattle.images.specs.Gathers.{nothing_gathered};
     ghost use Rattle.group_commit.specs.Marks.{new_keeper, new_stopper, new_watcher};
     ghost use Rattle.store.specs.Openings.{Tables};
 

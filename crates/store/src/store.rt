@@ -1,10 +1,9 @@
 // The store.
 ghost use Rattle.std.specs.Prelude.{◌≡◌, ◌++◌, IfOk, IsOkUnless};
 ghost use Rattle.calls.specs.declared.refusal.Refusal.{Refusal};
-ghost use Rattle.group_commit.specs.Lines.{IsLonger};
+ghost use Rattle.group_commit.specs.Lines.{HaveSeenOne};
 ghost use Rattle.group_commit.specs.Marks.{new_watcher};
-ghost use Rattle.clients.specs.Known.{newcomer};
-ghost use Rattle.clients.specs.Known.{seen_of, counts_of};
+ghost use Rattle.clients.specs.Known.{newcomer, both_left, all_left};
 ghost use Rattle.desks.specs.Told.{told_book};
 ghost use Rattle.store.specs.Closing.{Closes};
 ghost use Rattle.store.specs.Turns.{new_committer};
@@ -19,7 +18,7 @@ use calls::Refusal;
 use catalog::Catalog;
 use checkpoint::Keeper;
 use clients::{Client, Seen};
-use desks::{Desk, Lock, Naming, Shared, Shelves, Signal};
+use desks::{Desk, Lock, Naming, Order, Shared, Shelves, Signal};
 use disk_model::Disk;
 use records::Coded;
 use std::sync::{Mutex, Wait};
@@ -95,7 +94,7 @@ impl<D: Disk, J: Naming, B: Coded> Store<D, J, B> {
         ensures client { IfOk result (λ c. c ≡ newcomer c.number) }
         ensures worn { IsOkUnless result Refusal.Worn }
     {
-        let (line, watcher, drawer) = self.desk.lock(rt).client(&self.shared)?;
+        let (line, watcher, drawer) = self.desk.lock(rt, &mut Order::new()).client(&self.shared)?;
         Ok(Client::new(
             &self.shelves,
             &self.desk,
@@ -111,7 +110,7 @@ impl<D: Disk, J: Naming, B: Coded> Store<D, J, B> {
     pub fn committer<R: Wait>(&self, rt: &R) -> Committer<'_, D, J, B>
         ensures { result ≡ new_committer J.mark }
     {
-        let watcher = self.desk.lock(rt).watcher(&self.shared);
+        let watcher = self.desk.lock(rt, &mut Order::new()).watcher(&self.shared);
         let stopper = self.stopping.lock(rt).stopper(&self.shared);
         Committer::new(&self.desk, &self.vault, &self.shared, watcher, stopper)
     }
@@ -121,7 +120,7 @@ impl<D: Disk, J: Naming, B: Coded> Store<D, J, B> {
     pub fn checkpointer<R: Wait>(&self, rt: &R) -> Checkpointer<'_, D, J, B>
         ensures { result ≡ new_watcher J.mark }
     {
-        let watcher = self.desk.lock(rt).watcher(&self.shared);
+        let watcher = self.desk.lock(rt, &mut Order::new()).watcher(&self.shared);
         Checkpointer::new(
             &self.shelves,
             &self.desk,
@@ -137,39 +136,40 @@ impl<D: Disk, J: Naming, B: Coded> Store<D, J, B> {
         &self.shared.signal
     }
 
-    /// What two clients of this store had seen when they left, as one, for `close`: the longer of
-    /// what they had seen, under the number of the first, and the counts that either loaded. It
-    /// takes no memory, and waits for nobody.
+    /// What two clients of this store had seen when they left, or two lots of them, together, for
+    /// `close`: what each had seen, in order, and the counts that any of them loaded. Of any two of
+    /// them, what one had seen begins what the other had. It takes no memory, and waits for nobody.
     pub fn together(&self, one: Seen<J>, other: Seen<J>) -> Seen<J>
-        ensures number { result.number ≡ one.number }
-        ensures longer { IsLonger one.seen other.seen result.seen }
-        ensures counts { result.counts ≡ one.counts ++ other.counts }
+        ensures both { result ≡ both_left one other }
+        ensures one_history { HaveSeenOne result.clients }
     {
         let Seen {
-            mut line,
+            line,
             mut watcher,
             ..
         } = one;
         let Seen {
-            line: mut other_line,
+            line: other_line,
             watcher: mut other_watcher,
             ..
         } = other;
-        self.shared.line.meet(&mut line, &mut other_line);
+        let line = self.shared.line.gather(line, other_line);
         self.shared.mark.inform(&mut other_watcher, &mut watcher);
         Seen::new(line, watcher)
     }
 
-    /// Ends the store, and gives its book and its keeper. What was not brought to the disk yet is
-    /// dropped, so let the committer take turns before, until it answers Idle. `last` is what a
-    /// client of this store left, if one did: the contract says more then. No device is called.
+    /// Ends the store, and gives its book and its keeper, and how many clients it made. What was
+    /// not brought to the disk yet is dropped, so let the committer take turns before, until it
+    /// answers Idle. `last` is what clients of this store left, if one did: the contract says more
+    /// then. No device is called.
     ///
     /// The book stands where a legal history from the opened content ends, which begins with what
-    /// the last client had seen. Whatever a stop leaves of the disk is sound, and stands for a
-    /// content that a beginning of its committed transactions gives. That beginning holds all that
-    /// was told to be kept.
-    pub fn close(self, last: Option<Seen<J>>) -> (Book<B>, Keeper<D>)
-        ensures { Closes ⟦<J as Naming>⟧ ⟦<D as Disk>⟧ (seen_of last) (counts_of last)
+    /// each of these clients had seen. Where they are as many as the store made, each step of a
+    /// client in it is of one of them. Whatever a stop leaves of the disk is sound, and stands for
+    /// a content that a beginning of its committed transactions gives. That beginning holds all
+    /// that was told to be kept.
+    pub fn close(self, last: Option<Seen<J>>) -> (Book<B>, Keeper<D>, u64)
+        ensures { Closes ⟦<J as Naming>⟧ ⟦<D as Disk>⟧ (all_left last) result.2
             (told_book B.collections result.0) result.1 }
     {
         let Store {

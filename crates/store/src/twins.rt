@@ -7,9 +7,9 @@ use catalog::Four;
 use desks::Touch;
 use group_commit::{Twin, TwinFar, TwinNear};
 use records::Coded;
-use shelf::Shelf;
 use std::alloc::Global;
 use std::marker::Model;
+use steps::Shelf;
 
 /// What the journal's lock and each shelf's both know, for each of the four shelves: that nothing
 /// touched it yet. Contracts see the tables.

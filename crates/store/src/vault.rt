@@ -1,6 +1,6 @@
 // What lies under the keeper's lock.
 ghost use Rattle.std.specs.Prelude.{◌≡◌, [], IfSome, IfNone, IfErr, Err};
-ghost use Rattle.group_commit.specs.Accords.{nothing_gathered};
+ghost use Rattle.images.specs.Gathers.{nothing_gathered};
 ghost use Rattle.group_commit.specs.Marks.{new_keeper};
 ghost use Rattle.store.specs.Turns.{Brings, TurnTells, CheckTells, brought_to, flipped_to, Fails};
 ghost use Rattle.store.specs.Turns.{FailsWith, stops_by, stops_behind};
@@ -11,7 +11,7 @@ ghost use Rattle.group_commit.specs.Rising.{raised_to};
 use crate::checkpointing::Checkpoint;
 use calls::Refusal;
 use checkpoint::{Keeper, Turn};
-use desks::{Extent, Naming, Shared};
+use desks::{Extent, Naming, Ranked, Shared};
 use disk_model::Disk;
 use engine::Room;
 use group_commit::{Handoff, Incoming, KeeperSeat, Mark, Near, OneMoment, Receiver, Watcher};
@@ -39,6 +39,14 @@ impl<D: Disk, J: Naming> Model for Vault<D, J> {
 
     ghost invariant = { λ v. IsVault ⟦<J as Naming>⟧ ⟦<D as Disk>⟧ v.keeper v.receiver v.mark
         v.near × Awaits v.keeper.stage v.near.gather };
+}
+
+impl<D: Disk, J: Naming> Ranked for Vault<D, J> {
+    ghost level = { 2 };
+
+    fn level() -> u8 {
+        2
+    }
 }
 
 impl<D: Disk, J: Naming> Vault<D, J> {

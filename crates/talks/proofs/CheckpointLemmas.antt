@@ -8,8 +8,8 @@ use Rattle.std.proofs.lemmas.List.{append-nil}
 use Rattle.calls.specs.declared.refusal.Refusal.{Refusal}
 use Rattle.disk_model.specs.declared.disk.Disk.{Ghosts}
 use Rattle.boosted.proofs.Each.{each_append}
-use Rattle.world.specs.declared.steps.Step.{Step}
-use Rattle.world.specs.declared.steps.Answer.{Answer}
+use Rattle.world.specs.declared.step.Step.{Step}
+use Rattle.world.specs.declared.step.Answer.{Answer}
 use Rattle.world.specs.Moves.{Whole}
 use Rattle.world.specs.Pasts.{Past, alone, outcome}
 use Rattle.world.specs.OneStep.{TakesStep}

@@ -12,8 +12,8 @@ use Rattle.calls.specs.Names.{IsName}
 use Rattle.catalog.specs.Making.{names_of, IsPlaceOf, FindRefused}
 use Rattle.checkpoint.specs.declared.turn.Turn.{Turn}
 use Rattle.engine.specs.Rooms.{told}
-use Rattle.world.specs.declared.steps.Step.{Step}
-use Rattle.world.specs.declared.steps.Answer.{Answer}
+use Rattle.world.specs.declared.step.Step.{Step}
+use Rattle.world.specs.declared.step.Answer.{Answer}
 use Rattle.disk_model.specs.declared.disk.Disk.{Ghosts}
 use Rattle.world.specs.Moves.{Whole}
 use Rattle.world.specs.Pasts.{Past, alone, outcome}

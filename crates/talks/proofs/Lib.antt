@@ -1,4 +1,7 @@
 pub mod TalkLemmas
+pub mod KnownLemmas
+pub mod LeadLemmas
+pub mod DialogueLemmas
 pub mod PatienceLemmas
 pub mod LineLemmas
 pub mod SessionLemmas

@@ -1,12 +1,12 @@
 -- Transactions that wait.
-use Rattle.std.proofs.Common.{◌≡◌, inl, inr, ℕ, suc, List, [], true, Option}
+use Rattle.std.proofs.Common.{inr, ℕ, suc, List, [], true, Option}
 use Rattle.script.specs.declared.action.Request.{Request}
 use Rattle.talks.specs.declared.patience.Tried.{Tried}
 use Rattle.talks.specs.declared.speaking.Speaker.{Ghosts}
 use Rattle.talks.specs.declared.told.Told.{Told}
 use Rattle.talks.specs.declared.transacting.Outcome.{Outcome}
 use Rattle.talks.specs.Hearing.{Hears}
-use Rattle.talks.specs.Talks.{RunsCalls, Stops, Transacts, Tries, TriesInVain, IsTried, Settles}
+use Rattle.talks.specs.Talks.{Stops, Tries, TriesInVain, IsTried}
 use Rattle.talks.specs.Talks.{GivesUp, EndsTries, TransactsWithin}
 use Rattle.talks.proofs.TalkLemmas.{hears_more}
 
@@ -16,16 +16,6 @@ pub still_heard : {A : Type 0} (h k l : Option (List (Told A))) → Hears h k []
 still_heard h k l heard more = hears_more h k l [] [] heard more
 
 module _ {S A : Type 0} (s : Ghosts S A) where
-  -- a try whose calls were made
-  pub tried_settled : (old opened mid new : S) (rs : List Request) (begun : A) (saids : List A)
-      (t : Tried A) → s.says old Request.Begin begun opened → (s.refuses begun → ⊥) →
-      RunsCalls s opened rs saids mid → Settles s mid saids t new → IsTried s old rs t new
-  tried_settled old opened mid new rs begun saids (Tried.Transacted outcome) begins is_open ran
-      done =
-      inr (begun, opened, begins, is_open, inl (saids, mid, ran, done))
-  tried_settled old opened mid new rs begun saids (Tried.TakenBack back) begins is_open ran done =
-      (begun, opened, mid, begins, is_open, inl (saids, ran), done)
-
   -- a try of which a call was refused
   pub tried_stopped : (old opened mid new : S) (rs : List Request) (begun : A) (told : Told A)
       (t : Tried A) → s.says old Request.Begin begun opened → (s.refuses begun → ⊥) →

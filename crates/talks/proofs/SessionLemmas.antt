@@ -10,10 +10,10 @@ use Rattle.talks.specs.Sessions.{SessionState, Answers, CarriesOut, answers_of}
 module _ (o : Origin) where
   -- a line more
   pub carries_on : (k : ℕ) (old mid new : SessionState) (lines : List Line) (line : Line)
-      (said : List Answer) (more : Option Answer) → CarriesOut o k old lines said mid →
+      (response : List Answer) (more : Option Answer) → CarriesOut o k old lines response mid →
       Answers o k mid line more new →
-      CarriesOut o k old (lines ++ line ∷ []) (said ++ answers_of more) new
-  carries_on k old mid new [] line said more carried answered = (
+      CarriesOut o k old (lines ++ line ∷ []) (response ++ answers_of more) new
+  carries_on k old mid new [] line response more carried answered = (
     more,
     [],
     new,
@@ -21,7 +21,7 @@ module _ (o : Origin) where
     subst (λ s. Answers o k s line more new) carried.1 answered,
     (refl, refl),
   )
-  carries_on k old mid new (l ∷ lines) line said more carried answered =
+  carries_on k old mid new (l ∷ lines) line response more carried answered =
       let first = carried.0 in
       let rest = carried.1 in
       let next = carried.2 in (

@@ -16,7 +16,7 @@ use Rattle.talks.specs.Lines.{Begins, Finds}
 use Rattle.std.proofs.KnownBytes.{Consumes-trans}
 use Rattle.talks.specs.Hearing.{Hears, IsHeard, IsBreak, tolds_of}
 use Rattle.talks.specs.Talks.{AreTried, RunsCalls, IsRound, AreRounds, IsLast, TalksOn, bytes_of}
-use Rattle.talks.specs.Talks.{told_of, IsAnswered, IsSettled, Turns}
+use Rattle.talks.specs.Talks.{told_of, IsAnswered, IsSettled, BreaksOff, Turns}
 
 pub hears_none : {A : Type 0} (h : Option (List (Told A))) → Hears h h []
 hears_none None = tt
@@ -32,12 +32,13 @@ hears_more (Some h) (Some i) (Some k) xs ys first second =
 
 module _ {S A : Type 0} (s : Ghosts S A) where
   -- a try more
-  pub tried_on : (old mid new : S) (saids : List A) (said : A) → AreTried s old saids mid →
-      s.says mid Request.Abort said new → AreTried s old (saids ++ said ∷ []) new
-  tried_on old mid new [] said tried says =
-      (new, subst (λ m. s.says m Request.Abort said new) tried says, refl)
-  tried_on old mid new (first ∷ saids) said tried says =
-      (tried.0, tried.1, tried_on tried.0 mid new saids said tried.2 says)
+  pub tried_on : (old mid new : S) (responses : List A) (response : A) →
+      AreTried s old responses mid →
+      s.says mid Request.Abort response new → AreTried s old (responses ++ response ∷ []) new
+  tried_on old mid new [] response tried says =
+      (new, subst (λ m. s.says m Request.Abort response new) tried says, refl)
+  tried_on old mid new (first ∷ responses) response tried says =
+      (tried.0, tried.1, tried_on tried.0 mid new responses response tried.2 says)
 
   -- whether none is open behind so many tries
   pub settled : (tries : ℕ) (new : S) (opened : Bool) → IsTrue opened ↔ s.is_open new →
@@ -46,26 +47,27 @@ module _ {S A : Type 0} (s : Ghosts S A) where
   settled tries new false is all = λ opened. true≢false (sym (is.1 opened))
 
   -- a call more
-  pub runs_on : (old mid new : S) (rs : List Request) (r : Request) (saids : List A) (said : A) →
-      RunsCalls s old rs saids mid → s.says mid r said new → (s.refuses said → ⊥) →
-      RunsCalls s old (rs ++ r ∷ []) (saids ++ said ∷ []) new
-  runs_on old mid new [] r saids said ran says accepted = (
-    said,
+  pub runs_on : (old mid new : S) (rs : List Request) (r : Request) (responses : List A)
+      (response : A) →
+      RunsCalls s old rs responses mid → s.says mid r response new → (s.refuses response → ⊥) →
+      RunsCalls s old (rs ++ r ∷ []) (responses ++ response ∷ []) new
+  runs_on old mid new [] r responses response ran says accepted = (
+    response,
     [],
     new,
-    ap (λ l. l ++ said ∷ []) ran.0,
-    subst (λ m. s.says m r said new) ran.1 says,
+    ap (λ l. l ++ response ∷ []) ran.0,
+    subst (λ m. s.says m r response new) ran.1 says,
     accepted,
     (refl, refl),
   )
-  runs_on old mid new (q ∷ rs) r saids said ran says accepted = (
+  runs_on old mid new (q ∷ rs) r responses response ran says accepted = (
     ran.0,
-    ran.1 ++ said ∷ [],
+    ran.1 ++ response ∷ [],
     ran.2,
-    ap (λ l. l ++ said ∷ []) ran.3,
+    ap (λ l. l ++ response ∷ []) ran.3,
     ran.4,
     ran.5,
-    runs_on ran.2 mid new rs r ran.1 said ran.6 says accepted,
+    runs_on ran.2 mid new rs r ran.1 response ran.6 says accepted,
   )
 
   pub parts_at : (rs : List Request) (i : ℕ) (r : Request) → i < length rs → r ≡ get_or rs i r →
@@ -112,9 +114,8 @@ module _ {S A : Type 0} (s : Ghosts S A) where
 pub heard_behind : {A : Type 0} (h i k : Option (List (Told A))) (told : Option (Told A))
     (next result : Option Why) → Hears h i [] → IsHeard i k told next result →
     IsHeard h k told next result
-heard_behind h i k told next result none (inl heard) =
-    inl (heard.0, hears_more h i k [] (tolds_of told) none heard.1)
-heard_behind h i k told next result none (inr broken) = inr broken
+heard_behind h i k told next result none heard =
+    (hears_more h i k [] (tolds_of told) none heard.0, heard.1)
 
 -- what is heard before nothing
 heard_before : {A : Type 0} (h k l : Option (List (Told A))) (xs : List (Told A)) →
@@ -127,14 +128,18 @@ module _ {S A : Type 0} (s : Ghosts S A) where
   turn_broken : (r t : Option (List ℕ)) (h k : Option (List (Told A))) (begun : List ℕ)
       (old new : S) (undone after : Bool) (bs : List ℕ) (told : Option (Told A))
       (next result : Option Why) (kept : List ℕ) → IsRound s old undone bs told next new after →
-      IsSomeAnd result IsBreak → Turns s r t h k begun old undone result new after kept
-  turn_broken r t h k begun old new undone after bs told next (Some Why.Broken) kept is broken =
-      inr (bs, told, next, after, is)
-  turn_broken r t h k begun old new undone after bs told next (Some Why.NoMemory) kept is broken =
-      inr (bs, told, next, after, is)
-  turn_broken r t h k begun old new undone after bs told next (Some why) kept is broken =
+      Hears h k (tolds_of told) → IsSomeAnd result IsBreak →
+      Turns s r t h k begun old undone result new after kept
+  turn_broken r t h k begun old new undone after bs told next (Some Why.Broken) kept is heard
+      broken =
+      inr (bs, told, next, after, is, heard)
+  turn_broken r t h k begun old new undone after bs told next (Some Why.NoMemory) kept is heard
+      broken =
+      inr (bs, told, next, after, is, heard)
+  turn_broken r t h k begun old new undone after bs told next (Some why) kept is heard broken =
       absurd broken
-  turn_broken r t h k begun old new undone after bs told next None kept is broken = absurd broken
+  turn_broken r t h k begun old new undone after bs told next None kept is heard broken =
+      absurd broken
 
   -- what a turn is in which a line was read to its end and answered
   turn_line : (r t : Option (List ℕ)) (h k : Option (List (Told A))) (begun : List ℕ)
@@ -146,9 +151,9 @@ module _ {S A : Type 0} (s : Ghosts S A) where
   turn_line r t h k begun old new undone after bs told None kept is took heard none =
       (bs, told, took, heard, inl (is, none))
   turn_line r t h k begun old new undone after bs told (Some Why.Broken) kept is took heard none =
-      inr (begun ++ bs, told, Some Why.Broken, after, is)
+      inr (begun ++ bs, told, Some Why.Broken, after, is, heard)
   turn_line r t h k begun old new undone after bs told (Some Why.NoMemory) kept is took heard none =
-      inr (begun ++ bs, told, Some Why.NoMemory, after, is)
+      inr (begun ++ bs, told, Some Why.NoMemory, after, is, heard)
   turn_line r t h k begun old new undone after bs told (Some Why.Bye) kept is took heard none =
       (bs, told, after, is, took, heard)
   turn_line r t h k begun old new undone after bs told (Some Why.Gone) kept is took heard none =
@@ -158,19 +163,22 @@ module _ {S A : Type 0} (s : Ghosts S A) where
 
   pub turned : (r t : Option (List ℕ)) (h i k : Option (List (Told A))) (begun : List ℕ)
       (old new : S) (undone after : Bool) (found : Found) (line kept : List ℕ)
-      (told : Option (Told A)) (next result : Option Why) → kept ≡ [] → Finds 4095 begun r t found line →
+      (told : Option (Told A)) (next result : Option Why) → kept ≡ [] →
+      Finds 4095 begun r t found line →
       IsAnswered s found old undone line told next new after → Hears h i [] →
       IsHeard i k told next result → Turns s r t h k begun old undone result new after kept
   turned r t h i k begun old new undone after found line kept told next result none finds
-      answered sent (inl heard) =
-      subst (λ w. Turns s r t h k begun old undone w new after kept) (sym heard.0)
-      (turn_line r t h k begun old new undone after finds.0 told next kept
-      (found, line, finds.2, answered) finds.1
-      (hears_more h i k [] (tolds_of told) sent heard.1) none)
-  turned r t h i k begun old new undone after found line kept told next result none finds
-      answered sent (inr broken) =
-      turn_broken r t h k begun old new undone after (begun ++ finds.0) told next result kept
-      (found, line, finds.2, answered) broken
+      answered sent heard =
+      let more = hears_more h i k [] (tolds_of told) sent heard.0 in
+      elim heard.1 [
+        | inl same ↦
+            subst (λ w. Turns s r t h k begun old undone w new after kept) (sym same)
+            (turn_line r t h k begun old new undone after finds.0 told next kept
+            (found, line, finds.2, answered) finds.1 more none)
+        | inr broken ↦
+            turn_broken r t h k begun old new undone after (begun ++ finds.0) told next result kept
+            (found, line, finds.2, answered) more broken
+      ]
 
   pub turned_silent : (r t : Option (List ℕ)) (h i k : Option (List (Told A))) (begun : List ℕ)
       (old new : S) (undone after : Bool) (line kept : List ℕ)
@@ -179,22 +187,25 @@ module _ {S A : Type 0} (s : Ghosts S A) where
       IsAnswered s Found.Silence old undone line told next new after → Hears h i [] →
       IsHeard i k told next result → Turns s r t h k begun old undone result new after kept
   turned_silent r t h i k begun old new undone after line kept told next result is finds
-      answered sent (inl heard) =
-      subst (λ w. Turns s r t h k begun old undone w new after kept)
-      (sym (heard.0 ∙ answered.1)) (
-        finds.0,
-        told,
-        finds.1,
-        hears_more h i k [] (tolds_of told) sent heard.1,
-        inr (
-          (Found.Silence, [], (All-nil (λ b. b ≢ 10), refl), (answered.0, refl, answered.2)),
-          (finds.2.0, is ∙ finds.2.1),
-        ),
-      )
-  turned_silent r t h i k begun old new undone after line kept told next result is finds
-      answered sent (inr broken) =
-      turn_broken r t h k begun old new undone after [] told next result kept
-      (Found.Silence, [], (All-nil (λ b. b ≢ 10), refl), answered) broken
+      answered sent heard =
+      let more = hears_more h i k [] (tolds_of told) sent heard.0 in
+      elim heard.1 [
+        | inl same ↦
+            subst (λ w. Turns s r t h k begun old undone w new after kept)
+            (sym (same ∙ answered.1)) (
+              finds.0,
+              told,
+              finds.1,
+              more,
+              inr (
+                (Found.Silence, [], (All-nil (λ b. b ≢ 10), refl), (answered.0, refl, answered.2)),
+                (finds.2.0, is ∙ finds.2.1),
+              ),
+            )
+        | inr broken ↦
+            turn_broken r t h k begun old new undone after [] told next result kept
+            (Found.Silence, [], (All-nil (λ b. b ≢ 10), refl), answered) more broken
+      ]
 
 module _ {S A : Type 0} (s : Ghosts S A) where
   -- what a talk is so far: the rounds, and what the next line begins with
@@ -235,11 +246,21 @@ module _ {S A : Type 0} (s : Ghosts S A) where
   )
 
 module _ {S A : Type 0} (s : Ghosts S A) where
-  last_sent : (r t : Option (List ℕ)) (h k l : Option (List (Told A))) (begun : List ℕ) (old new : S)
+  break_sent : (h k l : Option (List (Told A))) (old new : S) (undone : Bool) →
+      BreaksOff s h k old undone new → Hears k l [] → BreaksOff s h l old undone new
+  break_sent h k l old new undone (inl (same, heard)) sent =
+      inl (same, heard_before h k l [] heard sent)
+  break_sent h k l old new undone (inr (bs, told, next, after, is, heard)) sent =
+      inr (bs, told, next, after, is, heard_before h k l (tolds_of told) heard sent)
+
+  last_sent : (r t : Option (List ℕ)) (h k l : Option (List (Told A))) (begun : List ℕ)
+      (old new : S)
       (undone : Bool) (why : Why) → IsLast s r t h k begun old undone why new → Hears k l [] →
       IsLast s r t h l begun old undone why new
-  last_sent r t h k l begun old new undone Why.Broken last sent = last
-  last_sent r t h k l begun old new undone Why.NoMemory last sent = last
+  last_sent r t h k l begun old new undone Why.Broken last sent =
+      break_sent h k l old new undone last sent
+  last_sent r t h k l begun old new undone Why.NoMemory last sent =
+      break_sent h k l old new undone last sent
   last_sent r t h k l begun old new undone Why.Bye last sent =
       (last.0, last.1, last.2, last.3, last.4, heard_before h k l (tolds_of last.1) last.5 sent)
   last_sent r t h k l begun old new undone Why.Gone last sent =
@@ -262,3 +283,67 @@ module _ {S A : Type 0} (s : Ghosts S A) where
     talked.8,
     last_sent talked.2 t talked.3 k l talked.1 talked.4 new talked.5 why talked.9 sent,
   )
+
+-- ---- what was heard of one talk alone
+
+module _ {S A : Type 0} (s : Ghosts S A) where
+  -- what is heard from here on is the same, whatever was heard before
+  break_alone : (first all other : List (Told A)) (old new : S) (undone : Bool) →
+      BreaksOff s (Some first) (Some all) old undone new →
+      (last : List (Told A)) × BreaksOff s (Some other) (Some (other ++ last)) old undone new ×
+      (all ≡ first ++ last)
+  break_alone first all other old new undone (inl (same, heard)) =
+      ([], inl (same, refl), heard)
+  break_alone first all other old new undone (inr (bs, told, next, after, is, heard)) =
+      (tolds_of told, inr (bs, told, next, after, is, refl), heard)
+
+  last_alone : (r t : Option (List ℕ)) (first all other : List (Told A)) (begun : List ℕ)
+      (old new : S) (undone : Bool) (why : Why) →
+      IsLast s r t (Some first) (Some all) begun old undone why new →
+      (last : List (Told A)) × IsLast s r t (Some other) (Some (other ++ last)) begun old undone
+      why new × (all ≡ first ++ last)
+  last_alone r t first all other begun old new undone Why.Broken last =
+      break_alone first all other old new undone last
+  last_alone r t first all other begun old new undone Why.NoMemory last =
+      break_alone first all other old new undone last
+  last_alone r t first all other begun old new undone Why.Bye
+      (bs, told, after, is, took, heard) =
+      (tolds_of told, (bs, told, after, is, took, refl), heard)
+  last_alone r t first all other begun old new undone Why.Gone
+      (bs, told, after, is, took, heard) =
+      (tolds_of told, (bs, told, after, is, took, refl), heard)
+  last_alone r t first all other begun old new undone Why.Lost
+      (bs, told, after, is, took, heard) =
+      (tolds_of told, (bs, told, after, is, took, refl), heard)
+
+  -- what was heard of a talk, where something was heard before
+  pub record HeardAlone (r t : Option (List ℕ)) (before all : List (Told A)) (old : S) (why : Why)
+      (new : S) : Type 0 where
+    pub told : List (Told A)
+    pub talked : TalksOn s r t (Some []) (Some told) old why new
+    pub whole : all ≡ before ++ told
+
+  pub talk_alone : (r t : Option (List ℕ)) (before all : List (Told A)) (old new : S)
+      (why : Why) → TalksOn s r t (Some before) (Some all) old why new →
+      HeardAlone r t before all old why new
+  talk_alone r t before all old new why
+      (rounds, begun, q, None, mid, undone, are, took, heard, last) = absurd heard
+  talk_alone r t before all old new why
+      (rounds, begun, q, Some i, mid, undone, are, took, heard, last) =
+      let rest = last_alone q t i all (told_of s rounds) begun mid new undone why last in record {
+        told = told_of s rounds ++ rest.0;
+        talked = (
+          rounds,
+          begun,
+          q,
+          Some (told_of s rounds),
+          mid,
+          undone,
+          are,
+          took,
+          refl,
+          rest.1,
+        );
+        whole = rest.2 ∙ ap (λ l. l ++ rest.0) heard ∙
+            append_assoc before (told_of s rounds) rest.0;
+      }

@@ -7,8 +7,8 @@ use Rattle.calls.specs.Limits.{max_collections}
 use Rattle.calls.specs.declared.refusal.Refusal.{Refusal}
 use Rattle.disk_model.specs.declared.disk.Disk.{Ghosts}
 use Rattle.checkpoint.specs.Imaging.{pieces_left}
-use Rattle.world.specs.declared.steps.Step.{Step}
-use Rattle.world.specs.declared.steps.Answer.{Answer}
+use Rattle.world.specs.declared.step.Step.{Step}
+use Rattle.world.specs.declared.step.Answer.{Answer}
 use Rattle.world.specs.Moves.{Whole}
 use Rattle.world.specs.Pasts.{Past, alone}
 use Rattle.talks.specs.Plays.{Plays, Tries}

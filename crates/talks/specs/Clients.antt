@@ -13,8 +13,8 @@ use Rattle.calls.specs.Formats.{widest}
 use Rattle.calls.specs.Names.{IsName}
 use Rattle.boosted.specs.Meaning.{CanAsk}
 use Rattle.catalog.specs.Making.{names_of, IsPlaceOf, FindRefused}
-use Rattle.world.specs.declared.steps.Step.{Step}
-use Rattle.world.specs.declared.steps.Answer.{Answer}
+use Rattle.world.specs.declared.step.Step.{Step}
+use Rattle.world.specs.declared.step.Answer.{Answer}
 use Rattle.disk_model.specs.declared.disk.Disk.{Ghosts}
 use Rattle.world.specs.Moves.{Whole}
 use Rattle.world.specs.Pasts.{Past, alone}

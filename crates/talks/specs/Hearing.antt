@@ -3,7 +3,7 @@ use Rattle.std.specs.Prelude.{◌≡◌, ◌⊎◌, List, [], ◌∷◌, ◌++�
 use Rattle.talks.specs.declared.told.Told.{Told}
 use Rattle.talks.specs.declared.why.Why.{Why}
 
--- what was heard, where it is known, goes on with these and no more
+-- what was given to hear, where it is known, goes on with these and no more
 abbrev pub Hears : {S : Type 0} → Option (List (Told S)) → Option (List (Told S)) →
     List (Told S) → Type 0
 Hears None new more = ⊤
@@ -21,8 +21,8 @@ IsBreak Why.Broken = ⊤
 IsBreak Why.NoMemory = ⊤
 IsBreak why = ⊥
 
--- What is told is heard, or the talk is broken off.
+-- What is told is given to hear, and the talk goes on or ends as it was to; or it is broken off.
 abbrev pub IsHeard : {S : Type 0} → Option (List (Told S)) → Option (List (Told S)) →
     Option (Told S) → Option Why → Option Why → Type 0
 IsHeard old new told next result =
-    ((result ≡ next) × Hears old new (tolds_of told)) ⊎ IsSomeAnd result IsBreak
+    Hears old new (tolds_of told) × ((result ≡ next) ⊎ IsSomeAnd result IsBreak)

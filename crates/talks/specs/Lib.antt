@@ -7,3 +7,4 @@ pub mod Clients
 pub mod Turns
 pub mod Checkpoints
 pub mod Requests
+pub mod Dialogues

@@ -3,8 +3,8 @@ use Rattle.std.specs.Prelude.{◌≡◌, [], ◌∷◌, Result}
 use Rattle.calls.specs.Transactions.{Leads}
 use Rattle.calls.specs.declared.refusal.Refusal.{Refusal}
 use Rattle.disk_model.specs.declared.disk.Disk.{Ghosts}
-use Rattle.world.specs.declared.steps.Step.{Step}
-use Rattle.world.specs.declared.steps.Answer.{Answer}
+use Rattle.world.specs.declared.step.Step.{Step}
+use Rattle.world.specs.declared.step.Answer.{Answer}
 use Rattle.world.specs.Pasts.{Past, outcome}
 use Rattle.world.specs.Moves.{Whole}
 use Rattle.world.specs.OneStep.{TakesStep}
@@ -15,7 +15,7 @@ Plays g old steps new = Leads (TakesStep g) steps old new
 
 -- steps of which this is said are taken
 abbrev pub Runs : {D : Type 0} → Ghosts D → Whole D → (Past → Type 0) → Whole D → Type 0
-Runs g old said new = (steps : Past) × said steps × Plays g old steps new
+Runs g old response new = (steps : Past) × response steps × Plays g old steps new
 
 -- only steps are taken
 abbrev pub IsPlayed : {D : Type 0} → Ghosts D → Whole D → Whole D → Type 0

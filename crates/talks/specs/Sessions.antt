@@ -7,14 +7,14 @@ use Rattle.calls.specs.declared.reply.Reply.{Reply}
 use Rattle.calls.specs.declared.refusal.Refusal.{Refusal}
 use Rattle.calls.specs.declared.when.When.{When}
 use Rattle.calls.specs.Limits.{number_end}
-use Rattle.txn.specs.declared.steps.Action.{Action}
+use Rattle.txn.specs.declared.actions.Action.{Action}
 use Rattle.desks.specs.Origins.{Origin}
 use Rattle.clients.specs.declared.phase.Phase.{Phase}
 use Rattle.clients.specs.declared.ticket.Ticket.{Ticket}
 use Rattle.clients.specs.Known.{Known}
 use Rattle.clients.specs.Calls as calls
-use Rattle.talks.specs.Requests.{telling, saying, said_kept}
-use Rattle.talks.specs.declared.texts.Said.{Said}
+use Rattle.talks.specs.Requests.{telling, saying, response_kept}
+use Rattle.talks.specs.declared.texts.Response.{Response}
 use Rattle.script.specs.declared.action.Action as actions
 use Rattle.script.specs.declared.action.Operation.{Operation}
 use Rattle.script.specs.declared.action.Request.{Request}
@@ -45,17 +45,17 @@ Reaches place count true = place ≤ count
 Reaches place count false = count < place
 
 -- what is said of a ticket that is given
-abbrev pub said_placed : Ticket → Said
-said_placed ticket = Said.Placed ticket.place
+abbrev pub response_placed : Ticket → Response
+response_placed ticket = Response.Placed ticket.place
 
 -- the place that an answer tells, if it tells one
-abbrev pub said_place : Said → Option ℕ
-said_place (Said.Placed place) = Some place
-said_place said = None
+abbrev pub response_place : Response → Option ℕ
+response_place (Response.Placed place) = Some place
+response_place response = None
 
-abbrev pub IsRefusal : Said → Type 0
-IsRefusal (Said.Refused e) = Unit {0}
-IsRefusal said = ⊥
+abbrev pub IsRefusal : Response → Type 0
+IsRefusal (Response.Refused e) = Unit {0}
+IsRefusal response = ⊥
 
 abbrev pub answers_of : Option Answer → List Answer
 answers_of None = []
@@ -108,36 +108,36 @@ Looks old ticket (Some kept) new = (given : Ticket) × (count : ℕ) × (ticket 
 
 module _ (o : Origin) where
   -- A request is carried out, and its result is said.
-  abbrev pub Obeys : SessionState → Request → Result Said Refusal → SessionState → Type 0
+  abbrev pub Obeys : SessionState → Request → Result Response Refusal → SessionState → Type 0
   Obeys old (Request.Make kind name) r new =
-      (made : Result Ticket Refusal) × (r ≡ telling said_placed made) ×
+      (made : Result Ticket Refusal) × (r ≡ telling response_placed made) ×
       (new.ticket ≡ ticket_after old.ticket made) × Makes o old.known name kind made new.known
   Obeys old Request.Begin r new =
-      (begun : Result ℕ Refusal) × (r ≡ telling Said.Begun begun) × (new.ticket ≡ old.ticket) ×
+      (begun : Result ℕ Refusal) × (r ≡ telling Response.Begun begun) × (new.ticket ≡ old.ticket) ×
       Begins o old.known begun new.known
   Obeys old (Request.Call name operation) r new =
-      (called : Result Reply Refusal) × (r ≡ telling Said.Replied called) ×
+      (called : Result Reply Refusal) × (r ≡ telling Response.Replied called) ×
       (new.ticket ≡ old.ticket) ×
       InOpen old.known called new.known (AsksFor o name operation old.known called new.known)
   Obeys old (Request.Later name call) r new =
-      (deferred : Result Reply Refusal) × (r ≡ telling Said.Replied deferred) ×
+      (deferred : Result Reply Refusal) × (r ≡ telling Response.Replied deferred) ×
       (new.ticket ≡ old.ticket) × InOpen old.known deferred new.known
       (Asks o name call When.AtCommit old.known deferred new.known)
   Obeys old Request.Commit r new =
-      (placed : Result Ticket Refusal) × (r ≡ telling said_placed placed) ×
+      (placed : Result Ticket Refusal) × (r ≡ telling response_placed placed) ×
       (new.ticket ≡ ticket_after old.ticket placed) ×
       InOpen old.known placed new.known (Commits o old.known placed new.known)
   Obeys old Request.Abort r new =
-      (aborted : Result (Unit {0}) Refusal) × (r ≡ telling (λ done. Said.Aborted) aborted) ×
+      (aborted : Result (Unit {0}) Refusal) × (r ≡ telling (λ done. Response.Aborted) aborted) ×
       (new.ticket ≡ old.ticket) × InOpen old.known aborted new.known
       (calls.Aborts o old.known.phase old.known aborted new.known)
   Obeys old Request.Kept r new =
-      (kept : Option Bool) × (r ≡ Ok (said_kept kept)) × (new.ticket ≡ old.ticket) ×
+      (kept : Option Bool) × (r ≡ Ok (response_kept kept)) × (new.ticket ≡ old.ticket) ×
       Looks old.known old.ticket kept new.known
 
   -- what a request is answered
-  abbrev pub Says : SessionState → Request → Said → SessionState → Type 0
-  Says old request said new = (r : Result Said Refusal) × (said ≡ saying r) ×
+  abbrev pub Says : SessionState → Request → Response → SessionState → Type 0
+  Says old request response new = (r : Result Response Refusal) × (response ≡ saying r) ×
       Obeys old request r new
 
   -- A line that is a request of the client of this number is answered, and each other one is passed
@@ -147,7 +147,7 @@ module _ (o : Origin) where
       ((request : Request) → line.what ≡ actions.Action.Client k request → ⊥) × (new ≡ old)
   Answers k old line (Some answer) new =
       (request : Request) × (line.what ≡ actions.Action.Client k request) ×
-      (answer.number ≡ line.number) × Says old request answer.said new
+      (answer.number ≡ line.number) × Says old request answer.response new
 
   -- So are the lines, one after another.
   abbrev pub CarriesOut : ℕ → SessionState → List Line → List Answer → SessionState → Type 0
@@ -165,9 +165,9 @@ Ends old ticket End.Kept new = (given : Ticket) × (ticket ≡ Some given) ×
 Ends old ticket End.Lost new = (given : Ticket) × (ticket ≡ Some given) ×
     calls.Waits old given.place (Err Refusal.Lost) new
 
--- The transcript tells what the lines of the client of this number were answered, by a client of the
--- store that had no ticket, and how its wait for the last one ended. old, new: what that client knew
--- before, and behind it.
+-- The transcript tells what the lines of the client of this number were answered, by a client of
+-- the store that had no ticket, and how its wait for the last one ended. old, new: what that client
+-- knew before, and behind it.
 pub record IsRun (o : Origin) (k : ℕ) (old : Known) (lines : List Line) (new : Known)
     (t : Transcript) : Type 0 where
   pub client : t.client ≡ k

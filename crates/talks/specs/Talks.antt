@@ -42,7 +42,7 @@ telling told = (Some told, next_behind told)
 
 -- Of a transaction that a line ends: the talk ends where it could not be taken back.
 abbrev pub told_outcome : {A : Type 0} → Outcome A → Option (Told A) × Option Why
-told_outcome (Outcome.Committed saids place) = (Some (Told.Done saids place), None)
+told_outcome (Outcome.Committed responses place) = (Some (Told.Done responses place), None)
 told_outcome (Outcome.Refused told true) = (Some told, None)
 told_outcome (Outcome.Refused told false) = (Some told, Some Why.Broken)
 
@@ -95,8 +95,8 @@ module _ {S A : Type 0} (s : Ghosts S A) where
   -- Requests to take the open transaction back were made.
   abbrev pub AreTried : S → List A → S → Type 0
   AreTried old [] new = new ≡ old
-  AreTried old (said ∷ saids) new =
-      (mid : S) × s.says old Request.Abort said mid × AreTried mid saids new
+  AreTried old (response ∷ responses) new =
+      (mid : S) × s.says old Request.Abort response mid × AreTried mid responses new
 
   -- Whether none is open behind so many of them.
   abbrev pub IsSettled : ℕ → Bool → S → Type 0
@@ -106,7 +106,7 @@ module _ {S A : Type 0} (s : Ghosts S A) where
   -- whether it is taken back: it is not where it was tried that often
   abbrev pub IsTakenBack : S → Bool → S → Type 0
   IsTakenBack old back new =
-      (saids : List A) × AreTried old saids new × IsSettled (length saids) back new
+      (responses : List A) × AreTried old responses new × IsSettled (length responses) back new
 
   -- What was open is taken back, and whether something was, and is no more.
   abbrev pub IsUndone : S → Bool → S → Type 0
@@ -116,49 +116,51 @@ module _ {S A : Type 0} (s : Ghosts S A) where
 
   -- Calls were made one after another, none of which was refused.
   abbrev pub RunsCalls : S → List Request → List A → S → Type 0
-  RunsCalls old [] saids new = (saids ≡ []) × (new ≡ old)
-  RunsCalls old (r ∷ rs) saids new =
-      (said : A) × (rest : List A) × (mid : S) × (saids ≡ said ∷ rest) × s.says old r said mid ×
-      (s.refuses said → ⊥) × RunsCalls mid rs rest new
+  RunsCalls old [] responses new = (responses ≡ []) × (new ≡ old)
+  RunsCalls old (r ∷ rs) responses new =
+      (response : A) × (rest : List A) × (mid : S) × (responses ≡ response ∷ rest) ×
+      s.says old r response mid ×
+      (s.refuses response → ⊥) × RunsCalls mid rs rest new
 
   -- what is told of a call that ends a transaction: that it is refused, or that its answer takes
   -- more memory than there is
   abbrev pub IsStop : A → Told A → Type 0
-  IsStop said (Told.Said told) = (told ≡ said) × s.refuses said
-  IsStop said (Told.Refused Refusal.NoMemory) = Unit {0}
-  IsStop said told = ⊥
+  IsStop response (Told.Response told) = (told ≡ response) × s.refuses response
+  IsStop response (Told.Refused Refusal.NoMemory) = Unit {0}
+  IsStop response told = ⊥
 
   -- Calls were made up to one that ends the transaction.
   abbrev pub Stops : S → List Request → Told A → S → Type 0
   Stops old rs told new =
-      (front : List Request) × (r : Request) × (back : List Request) × (saids : List A) ×
-      (mid : S) × (said : A) × (rs ≡ front ++ r ∷ back) × RunsCalls old front saids mid ×
-      s.says mid r said new × IsStop said told
+      (front : List Request) × (r : Request) × (back : List Request) × (responses : List A) ×
+      (mid : S) × (response : A) × (rs ≡ front ++ r ∷ back) × RunsCalls old front responses mid ×
+      s.says mid r response new × IsStop response told
 
   -- The open transaction, whose calls were answered so, is committed; or it is taken back, as far
   -- as that can be.
   abbrev pub Commits : S → List A → Outcome A → S → Type 0
-  Commits old saids (Outcome.Committed told place) new =
-      (said : A) × s.says old Request.Commit said new × (s.placed said ≡ Some place) ×
-      (told.items ≡ saids)
-  Commits old saids (Outcome.Refused (Told.Said said) back) new =
-      (mid : S) × s.says old Request.Commit said mid × (s.placed said ≡ None) ×
+  Commits old responses (Outcome.Committed told place) new =
+      (response : A) × s.says old Request.Commit response new × (s.placed response ≡ Some place) ×
+      (told.items ≡ responses)
+  Commits old responses (Outcome.Refused (Told.Response response) back) new =
+      (mid : S) × s.says old Request.Commit response mid × (s.placed response ≡ None) ×
       IsTakenBack mid back new
-  Commits old saids outcome new = ⊥
+  Commits old responses outcome new = ⊥
 
   -- These calls are made in the open transaction, and all of it is committed as one; or all of it
   -- is taken back at the first refusal, as far as that can be.
   abbrev pub Finishes : S → List Request → Outcome A → S → Type 0
   Finishes old rs outcome new =
-      ((saids : List A) × (mid : S) × RunsCalls old rs saids mid × Commits mid saids outcome new)
+      ((responses : List A) × (mid : S) × RunsCalls old rs responses mid ×
+      Commits mid responses outcome new)
       ⊎ ((told : Told A) × (back : Bool) × (mid : S) × (outcome ≡ Outcome.Refused told back) ×
       Stops old rs told mid × IsTakenBack mid back new)
 
   -- A transaction of these calls alone: it is not begun, or it is begun and finished.
   abbrev pub Transacts : S → List Request → Outcome A → S → Type 0
   Transacts old rs outcome new =
-      ((said : A) × s.says old Request.Begin said new × s.refuses said ×
-      (outcome ≡ Outcome.Refused (Told.Said said) true))
+      ((response : A) × s.says old Request.Begin response new × s.refuses response ×
+      (outcome ≡ Outcome.Refused (Told.Response response) true))
       ⊎ ((begun : A) × (opened : S) × s.says old Request.Begin begun opened ×
       (s.refuses begun → ⊥) × Finishes opened rs outcome new)
 
@@ -174,7 +176,7 @@ module _ {S A : Type 0} (s : Ghosts S A) where
   -- that can be.
   abbrev pub Tries : S → List Request → Bool → S → Type 0
   Tries old rs back new = (begun : A) × (opened mid : S) × s.says old Request.Begin begun opened ×
-      (s.refuses begun → ⊥) × (((saids : List A) × RunsCalls opened rs saids mid)
+      (s.refuses begun → ⊥) × (((responses : List A) × RunsCalls opened rs responses mid)
       ⊎ ((told : Told A) × Stops opened rs told mid)) × IsTakenBack mid back new
 
   -- So many of them, each of which is taken back whole.
@@ -185,8 +187,8 @@ module _ {S A : Type 0} (s : Ghosts S A) where
 
   -- what becomes of a try whose calls were answered so, and of one of which a call was refused
   abbrev pub Settles : S → List A → Tried A → S → Type 0
-  Settles old saids (Tried.Transacted outcome) new = Commits old saids outcome new
-  Settles old saids (Tried.TakenBack back) new = IsTakenBack old back new
+  Settles old responses (Tried.Transacted outcome) new = Commits old responses outcome new
+  Settles old responses (Tried.TakenBack back) new = IsTakenBack old back new
 
   abbrev pub GivesUp : S → Told A → Tried A → S → Type 0
   GivesUp old told (Tried.Transacted outcome) new =
@@ -215,16 +217,16 @@ module _ {S A : Type 0} (s : Ghosts S A) where
 
   -- A commit of the open transaction, and a wait until it is kept.
   abbrev pub KeepsOpen : S → Told A → S → Type 0
-  KeepsOpen old told new = (said : A) × (mid : S) × s.says old Request.Commit said mid ×
-      (((s.placed said ≡ None) × (told ≡ Told.Said said) × (new ≡ mid))
-      ⊎ ((place : ℕ) × (end : End) × (s.placed said ≡ Some place) × s.ends mid end new ×
+  KeepsOpen old told new = (response : A) × (mid : S) × s.says old Request.Commit response mid ×
+      (((s.placed response ≡ None) × (told ≡ Told.Response response) × (new ≡ mid))
+      ⊎ ((place : ℕ) × (end : End) × (s.placed response ≡ Some place) × s.ends mid end new ×
       (told ≡ told_kept (Told.Kept place) end)))
 
   -- A wait for the transaction that a line ends, where it is committed.
   abbrev pub KeepsOutcome : S → Outcome A → Option (Told A) → Option Why → S → Type 0
-  KeepsOutcome old (Outcome.Committed saids place) told next new =
+  KeepsOutcome old (Outcome.Committed responses place) told next new =
       (end : End) × s.ends old end new ×
-      ((told, next) ≡ telling (told_kept (Told.DoneAndKept saids place) end))
+      ((told, next) ≡ telling (told_kept (Told.DoneAndKept responses place) end))
   KeepsOutcome old (Outcome.Refused refused back) told next new =
       ((told, next) ≡ told_outcome (Outcome.Refused refused back)) × (new ≡ old)
 
@@ -232,7 +234,8 @@ module _ {S A : Type 0} (s : Ghosts S A) where
   abbrev pub CarriesOut : S → Wish → Option (Told A) → Option Why → S → Type 0
   CarriesOut old Wish.Nothing told next new = (told ≡ None) × (next ≡ None) × (new ≡ old)
   CarriesOut old (Wish.Ask r) told next new =
-      (said : A) × s.says old r said new × (told ≡ Some (Told.Said said)) × (next ≡ None)
+      (response : A) × s.says old r response new × (told ≡ Some (Told.Response response)) ×
+      (next ≡ None)
   CarriesOut old Wish.Wait told next new =
       (end : End) × s.ends old end new × ((told, next) ≡ telling (told_end end))
   CarriesOut old Wish.Keep told next new =
@@ -257,8 +260,8 @@ module _ {S A : Type 0} (s : Ghosts S A) where
 
   -- the place of something that is perhaps not kept is told
   abbrev pub TellsPlace : Option (Told A) → Type 0
-  TellsPlace (Some (Told.Said said)) = IsSome (s.placed said)
-  TellsPlace (Some (Told.Done saids place)) = Unit {0}
+  TellsPlace (Some (Told.Response response)) = IsSome (s.placed response)
+  TellsPlace (Some (Told.Done responses place)) = Unit {0}
   TellsPlace told = ⊥
 
   -- The client is told that keeping has failed, which was heard, and the talk ends.
@@ -344,19 +347,18 @@ module _ {S A : Type 0} (s : Ghosts S A) where
   told_of [] = []
   told_of ((bs, told) ∷ rounds) = tolds_of told ++ told_of rounds
 
-  -- A talk was broken off: before a line was read, or behind one, of which it is not known whether
-  -- it was told.
-  abbrev pub BreaksOff : S → Bool → S → Type 0
-  BreaksOff old undone new = (new ≡ old)
+  -- A talk was broken off: before a line was read, or behind one, whose answer was given to hear.
+  abbrev pub BreaksOff : (h k : Option (List (Told A))) → S → Bool → S → Type 0
+  BreaksOff h k old undone new = ((new ≡ old) × Hears h k [])
       ⊎ ((bs : List ℕ) × (told : Option (Told A)) × (next : Option Why) × (after : Bool) ×
-      IsRound old undone bs told next new after)
+      IsRound old undone bs told next new after × Hears h k (tolds_of told))
 
   -- How a talk ended where a line had begun with these bytes: by a line that says so, or by the end
   -- of the lines; or it was broken off.
   abbrev pub IsLast : (r t : Option (List ℕ)) → (h k : Option (List (Told A))) → List ℕ → S → Bool →
       Why → S → Type 0
-  IsLast r t h k begun old undone Why.Broken new = BreaksOff old undone new
-  IsLast r t h k begun old undone Why.NoMemory new = BreaksOff old undone new
+  IsLast r t h k begun old undone Why.Broken new = BreaksOff h k old undone new
+  IsLast r t h k begun old undone Why.NoMemory new = BreaksOff h k old undone new
   IsLast r t h k begun old undone why new =
       (bs : List ℕ) × (told : Option (Told A)) × (after : Bool) ×
       IsRound old undone (begun ++ bs) told (Some why) new after × Consumes r t bs ×

@@ -4,8 +4,8 @@ use Rattle.std.specs.Result.{result_err}
 use Rattle.calls.specs.declared.refusal.Refusal.{Refusal}
 use Rattle.checkpoint.specs.declared.turn.Turn.{Turn}
 use Rattle.engine.specs.Rooms.{told}
-use Rattle.world.specs.declared.steps.Step.{Step}
-use Rattle.world.specs.declared.steps.Answer.{Answer}
+use Rattle.world.specs.declared.step.Step.{Step}
+use Rattle.world.specs.declared.step.Answer.{Answer}
 use Rattle.world.specs.Pasts.{Past}
 use Rattle.talks.specs.Plays.{Tries}
 

@@ -59,12 +59,12 @@ pub fn wish_in<S>(alloc: Global, line: &[u8]) -> Result<Wish, Told<S>>
 // Once keeping has failed, what commits or makes something, and what asks whether something is
 // kept, is told Lost and not done. Where it is found to have failed behind a commit, the client is
 // told Lost in place of its place.
-pub fn exchange<R: Wait + Clock + AllocGlobal, S: Speaker, H: Hearer<S::Said>>(
+pub fn exchange<R: Wait + Clock + AllocGlobal, S: Speaker, H: Hearer<S::Response>>(
     rt: &R,
     speaker: &mut S,
     hearer: &mut H,
     wish: &Wish,
-) -> (Option<Told<S::Said>>, Option<Why>)
+) -> (Option<Told<S::Response>>, Option<Why>)
     ensures done { Exchanges ⟦<S as Speaker>⟧ speaker.old wish.now result.0 result.1 speaker.new }
     ensures still { Hears (H.heard hearer.old) (H.heard hearer.new) [] }
 {
@@ -90,9 +90,9 @@ fn wants_keeping(wish: &Wish) -> bool
 // What a client is told in place of a place, where keeping has failed meanwhile.
 fn unless_failed<S: Speaker>(
     speaker: &mut S,
-    told: Option<Told<S::Said>>,
+    told: Option<Told<S::Response>>,
     next: Option<Why>,
-) -> (Option<Told<S::Said>>, Option<Why>)
+) -> (Option<Told<S::Response>>, Option<Why>)
     ensures { IsUnlessFailed ⟦<S as Speaker>⟧ speaker.old told next result.0 result.1 speaker.new }
 {
     if tells_place::<S>(&told) && speaker.has_failed() {
@@ -102,29 +102,29 @@ fn unless_failed<S: Speaker>(
 }
 
 // Whether a client is told the place of something that is perhaps not kept.
-fn tells_place<S: Speaker>(told: &Option<Told<S::Said>>) -> bool
+fn tells_place<S: Speaker>(told: &Option<Told<S::Response>>) -> bool
     ensures { IsTrue result ↔ TellsPlace ⟦<S as Speaker>⟧ told.now }
 {
     match told {
-        Some(Told::Said(said)) => S::place(said).is_some(),
+        Some(Told::Response(response)) => S::place(response).is_some(),
         Some(Told::Done(..)) => true,
         _ => false,
     }
 }
 
 // Does what a line asks for. Answers what the client is told, and why the talk ends, if it does.
-fn carry_out<R: Wait + Clock + AllocGlobal, S: Speaker, H: Hearer<S::Said>>(
+fn carry_out<R: Wait + Clock + AllocGlobal, S: Speaker, H: Hearer<S::Response>>(
     rt: &R,
     speaker: &mut S,
     hearer: &mut H,
     wish: &Wish,
-) -> (Option<Told<S::Said>>, Option<Why>)
+) -> (Option<Told<S::Response>>, Option<Why>)
     ensures done { CarriesOut ⟦<S as Speaker>⟧ speaker.old wish.now result.0 result.1 speaker.new }
     ensures still { Hears (H.heard hearer.old) (H.heard hearer.new) [] }
 {
     match wish {
         Wish::Nothing => (None, None),
-        Wish::Ask(request) => (Some(Told::Said(speaker.say(rt, request))), None),
+        Wish::Ask(request) => (Some(Told::Response(speaker.say(rt, request))), None),
         Wish::Wait => with_next(wait(rt, speaker, hearer)),
         Wish::Keep => with_next(keep(rt, speaker, hearer)),
         Wish::Do(calls) => told_of(run_line(rt, rt.alloc(), speaker, calls.as_slice())),
@@ -147,7 +147,7 @@ fn carry_out<R: Wait + Clock + AllocGlobal, S: Speaker, H: Hearer<S::Said>>(
 }
 
 // How what the speaker speaks with stands.
-fn status<R: Wait, S: Speaker>(rt: &R, alloc: Global, speaker: &mut S) -> Told<S::Said>
+fn status<R: Wait, S: Speaker>(rt: &R, alloc: Global, speaker: &mut S) -> Told<S::Response>
     ensures { (has_failed : Bool) × S.hears speaker.old has_failed speaker.new ×
         IsStatus has_failed result }
 {
@@ -171,7 +171,7 @@ fn with_next<S>(told: Told<S>) -> (Option<Told<S>>, Option<Why>)
 }
 
 // Waits until what was last committed or made is kept. What was told before is sent on first.
-fn end<R: Wait, S: Speaker, H: Hearer<S::Said>>(rt: &R, speaker: &mut S, hearer: &mut H) -> End
+fn end<R: Wait, S: Speaker, H: Hearer<S::Response>>(rt: &R, speaker: &mut S, hearer: &mut H) -> End
     ensures done { S.ends speaker.old result speaker.new }
     ensures still { Hears (H.heard hearer.old) (H.heard hearer.new) [] }
 {
@@ -181,11 +181,11 @@ fn end<R: Wait, S: Speaker, H: Hearer<S::Said>>(rt: &R, speaker: &mut S, hearer:
 }
 
 // A wait.
-fn wait<R: Wait, S: Speaker, H: Hearer<S::Said>>(
+fn wait<R: Wait, S: Speaker, H: Hearer<S::Response>>(
     rt: &R,
     speaker: &mut S,
     hearer: &mut H,
-) -> Told<S::Said>
+) -> Told<S::Response>
     ensures done { (end : End) × S.ends speaker.old end speaker.new × (result ≡ told_end end) }
     ensures still { Hears (H.heard hearer.old) (H.heard hearer.new) [] }
 {
@@ -196,19 +196,19 @@ fn wait<R: Wait, S: Speaker, H: Hearer<S::Said>>(
 }
 
 // A commit of the open transaction, and a wait until it is kept.
-fn keep<R: Wait, S: Speaker, H: Hearer<S::Said>>(
+fn keep<R: Wait, S: Speaker, H: Hearer<S::Response>>(
     rt: &R,
     speaker: &mut S,
     hearer: &mut H,
-) -> Told<S::Said>
+) -> Told<S::Response>
     ensures done { KeepsOpen ⟦<S as Speaker>⟧ speaker.old result speaker.new }
     ensures still { Hears (H.heard hearer.old) (H.heard hearer.new) [] }
 {
-    let said = speaker.say(rt, &Request::Commit);
-    let Some(place) = S::place(&said) else {
-        return Told::Said(said);
+    let response = speaker.say(rt, &Request::Commit);
+    let Some(place) = S::place(&response) else {
+        return Told::Response(response);
     };
-    drop(said);
+    drop(response);
     kept(end(rt, speaker, hearer), Told::Kept(place))
 }
 
@@ -227,25 +227,28 @@ fn told_of<S>(outcome: Outcome<S>) -> (Option<Told<S>>, Option<Why>)
     ensures { result ≡ told_outcome outcome }
 {
     match outcome {
-        Outcome::Committed(saids, place) => (Some(Told::Done(saids, place)), None),
+        Outcome::Committed(responses, place) => (Some(Told::Done(responses, place)), None),
         Outcome::Refused(told, true) => (Some(told), None),
         Outcome::Refused(told, false) => (Some(told), Some(Why::Broken)),
     }
 }
 
 // What is told of a transaction that a line ends, once it is kept.
-fn keep_outcome<R: Wait, S: Speaker, H: Hearer<S::Said>>(
+fn keep_outcome<R: Wait, S: Speaker, H: Hearer<S::Response>>(
     rt: &R,
     speaker: &mut S,
     hearer: &mut H,
-    outcome: Outcome<S::Said>,
-) -> (Option<Told<S::Said>>, Option<Why>)
+    outcome: Outcome<S::Response>,
+) -> (Option<Told<S::Response>>, Option<Why>)
     ensures done { KeepsOutcome ⟦<S as Speaker>⟧ speaker.old outcome result.0 result.1 speaker.new }
     ensures still { Hears (H.heard hearer.old) (H.heard hearer.new) [] }
 {
     match outcome {
-        Outcome::Committed(saids, place) => {
-            with_next(kept(end(rt, speaker, hearer), Told::DoneAndKept(saids, place)))
+        Outcome::Committed(responses, place) => {
+            with_next(kept(
+                end(rt, speaker, hearer),
+                Told::DoneAndKept(responses, place),
+            ))
         }
         refused => told_of(refused),
     }

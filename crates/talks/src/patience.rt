@@ -42,14 +42,14 @@ enum Sleep {
 // them is Busy and none is answered nothing, or as they are once the time is over. Each try before
 // is taken back whole, and then it sleeps until somebody else has ended something that the calls
 // ask for. Where its client goes meanwhile nothing is done.
-pub fn transact_within<R: Wait + Clock, S: Speaker, H: Hearer<S::Said>>(
+pub fn transact_within<R: Wait + Clock, S: Speaker, H: Hearer<S::Response>>(
     rt: &R,
     alloc: Global,
     speaker: &mut S,
     hearer: &mut H,
     limit: Limit,
     calls: &[Request],
-) -> Outcome<S::Said>
+) -> Outcome<S::Response>
     ensures done { TransactsWithin ⟦<S as Speaker>⟧ speaker.old calls.now result speaker.new }
     ensures still { Hears (H.heard hearer.old) (H.heard hearer.new) [] }
 {
@@ -61,14 +61,14 @@ pub fn transact_within<R: Wait + Clock, S: Speaker, H: Hearer<S::Said>>(
 }
 
 // Tries until something is found, or until then.
-fn try_until<R: Wait + Clock, S: Speaker, H: Hearer<S::Said>>(
+fn try_until<R: Wait + Clock, S: Speaker, H: Hearer<S::Response>>(
     rt: &R,
     alloc: Global,
     speaker: &mut S,
     hearer: &mut H,
     until: Moment,
     calls: &[Request],
-) -> Outcome<S::Said>
+) -> Outcome<S::Response>
     ensures done { TransactsWithin ⟦<S as Speaker>⟧ speaker.old calls.now result speaker.new }
     ensures still { Hears (H.heard hearer.old) (H.heard hearer.new) [] }
 {
@@ -89,49 +89,53 @@ fn try_until<R: Wait + Clock, S: Speaker, H: Hearer<S::Said>>(
 
 // A try: a transaction of the calls that is taken back where it found nothing to do, and where its
 // client has gone.
-fn attempt<R: Wait, S: Speaker, H: Hearer<S::Said>>(
+fn attempt<R: Wait, S: Speaker, H: Hearer<S::Response>>(
     rt: &R,
     alloc: Global,
     speaker: &mut S,
     hearer: &mut H,
     calls: &[Request],
-) -> Tried<S::Said>
+) -> Tried<S::Response>
     ensures done { IsTried ⟦<S as Speaker>⟧ speaker.old calls.now result speaker.new }
     ensures still { Hears (H.heard hearer.old) (H.heard hearer.new) [] }
 {
     let begun = speaker.say(rt, &Request::Begin);
     if S::is_refusal(&begun) {
-        return Tried::Transacted(Outcome::Refused(Told::Said(begun), true));
+        return Tried::Transacted(Outcome::Refused(Told::Response(begun), true));
     }
     drop(begun);
-    let mut saids = Vec::new(alloc);
-    match run_calls(rt, speaker, calls, &mut saids) {
-        None => settle(rt, speaker, hearer, calls, saids),
+    let mut responses = Vec::new(alloc);
+    match run_calls(rt, speaker, calls, &mut responses) {
+        None => settle(rt, speaker, hearer, calls, responses),
         Some(told) => give_up(rt, speaker, told),
     }
 }
 
 // Commits the open transaction, whose calls were answered so; or takes it back, where one was
 // answered nothing or the client has gone.
-fn settle<R: Wait, S: Speaker, H: Hearer<S::Said>>(
+fn settle<R: Wait, S: Speaker, H: Hearer<S::Response>>(
     rt: &R,
     speaker: &mut S,
     hearer: &mut H,
     calls: &[Request],
-    saids: Vec<S::Said>,
-) -> Tried<S::Said>
-    ensures done { Settles ⟦<S as Speaker>⟧ speaker.old saids.items result speaker.new }
+    responses: Vec<S::Response>,
+) -> Tried<S::Response>
+    ensures done { Settles ⟦<S as Speaker>⟧ speaker.old responses.items result speaker.new }
     ensures still { Hears (H.heard hearer.old) (H.heard hearer.new) [] }
 {
     let is_there = is_there(hearer);
-    if is_there && found_all::<S>(calls, saids.as_slice()) {
-        return Tried::Transacted(commit(rt, speaker, saids));
+    if is_there && found_all::<S>(calls, responses.as_slice()) {
+        return Tried::Transacted(commit(rt, speaker, responses));
     }
     Tried::TakenBack(take_back(rt, speaker))
 }
 
 // Takes the open transaction back, of which a call was refused.
-fn give_up<R: Wait, S: Speaker>(rt: &R, speaker: &mut S, told: Told<S::Said>) -> Tried<S::Said>
+fn give_up<R: Wait, S: Speaker>(
+    rt: &R,
+    speaker: &mut S,
+    told: Told<S::Response>,
+) -> Tried<S::Response>
     ensures { GivesUp ⟦<S as Speaker>⟧ speaker.old told result speaker.new }
 {
     let is_fruitless = is_fruitless::<S>(&told);
@@ -143,9 +147,9 @@ fn give_up<R: Wait, S: Speaker>(rt: &R, speaker: &mut S, told: Told<S::Said>) ->
 }
 
 // Whether no call found nothing, of those that were answered so.
-fn found_all<S: Speaker>(calls: &[Request], saids: &[S::Said]) -> bool {
-    for (call, said) in calls.iter().zip(saids) {
-        if S::is_fruitless(said) && !is_put(call) {
+fn found_all<S: Speaker>(calls: &[Request], responses: &[S::Response]) -> bool {
+    for (call, response) in calls.iter().zip(responses) {
+        if S::is_fruitless(response) && !is_put(call) {
             return false;
         }
     }
@@ -158,9 +162,9 @@ fn is_put(call: &Request) -> bool {
 }
 
 // Whether a call was refused as somebody was in its way.
-fn is_fruitless<S: Speaker>(told: &Told<S::Said>) -> bool {
+fn is_fruitless<S: Speaker>(told: &Told<S::Response>) -> bool {
     match told {
-        Told::Said(said) => S::is_fruitless(said),
+        Told::Response(response) => S::is_fruitless(response),
         _ => false,
     }
 }
@@ -173,7 +177,7 @@ fn is_there<S, H: Hearer<S>>(hearer: &mut H) -> bool
 }
 
 // Sleeps until another try may be worth it, or until then. What was told before is sent on first.
-fn rest<R: Wait + Clock, S: Speaker, H: Hearer<S::Said>>(
+fn rest<R: Wait + Clock, S: Speaker, H: Hearer<S::Response>>(
     rt: &R,
     speaker: &mut S,
     hearer: &mut H,

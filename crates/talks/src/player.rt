@@ -1,12 +1,12 @@
 // A script's clients and its committer, line by line.
 ghost use Rattle.std.specs.Prelude.{◌≡◌, replicate};
 ghost use Rattle.talks.specs.Plays.{IsPlayed};
-ghost use Rattle.talks.specs.Requests.{Obeys, Acts, Answers, PlaysLines, nobody, said_kept};
+ghost use Rattle.talks.specs.Requests.{Obeys, Acts, Answers, PlaysLines, nobody, response_kept};
 
 use crate::checkpointer::checkpoint;
 use crate::client::Client;
 use crate::committer::turn;
-use crate::texts::Said;
+use crate::texts::Response;
 use calls::{Refusal, When};
 use disk_model::Disk;
 use script::{Action, Line, Operation, Request};
@@ -53,31 +53,31 @@ impl<D: Disk> Player<D> {
             self.new.clients self.new.world }
     {
         for Line { number, what } in lines {
-            let said = self.answer(what);
-            write_line(out, number, said)?;
+            let response = self.answer(what);
+            write_line(out, number, response)?;
         }
         Ok(())
     }
 
     // What a line answers.
-    fn answer(&mut self, action: Action) -> Said
+    fn answer(&mut self, action: Action) -> Response
         ensures { Answers ⟦<D as Disk>⟧ self.old.clients self.old.world action result
             self.new.clients self.new.world }
     {
         match self.act(action) {
-            Ok(said) => said,
-            Err(refusal) => Said::Refused(refusal),
+            Ok(response) => response,
+            Err(refusal) => Response::Refused(refusal),
         }
     }
 
     // Does what a line asks for.
-    fn act(&mut self, action: Action) -> Result<Said, Refusal>
+    fn act(&mut self, action: Action) -> Result<Response, Refusal>
         ensures { Acts ⟦<D as Disk>⟧ self.old.clients self.old.world action result self.new.clients
             self.new.world }
     {
         match action {
-            Action::Turn => Ok(Said::Turned(turn(&mut self.world)?)),
-            Action::Checkpoint => Ok(Said::Flipped(checkpoint(&mut self.world)?)),
+            Action::Turn => Ok(Response::Turned(turn(&mut self.world)?)),
+            Action::Checkpoint => Ok(Response::Flipped(checkpoint(&mut self.world)?)),
             // clients are numbered from 1 to 64
             Action::Client(number, request) => {
                 let client = &mut self.clients[usize::from(number) % CLIENTS];
@@ -88,8 +88,8 @@ impl<D: Disk> Player<D> {
 }
 
 // Prints a line's number and its answer.
-fn write_line<O: Write>(out: &mut O, number: u64, said: Said) -> io::Result<()> {
-    writeln!(out, "{number}: {said}")
+fn write_line<O: Write>(out: &mut O, number: u64, response: Response) -> io::Result<()> {
+    writeln!(out, "{number}: {response}")
 }
 
 // Carries a client's request out.
@@ -97,36 +97,36 @@ fn obey<D: Disk>(
     world: &mut World<D>,
     client: &mut Client,
     request: Request,
-) -> Result<Said, Refusal>
+) -> Result<Response, Refusal>
     ensures { Obeys ⟦<D as Disk>⟧ client.old world.old request result client.new world.new }
 {
     match request {
-        Request::Make(kind, name) => Ok(Said::Placed(client.make(world, kind, &name)?)),
-        Request::Begin => Ok(Said::Begun(client.begin(world)?)),
+        Request::Make(kind, name) => Ok(Response::Placed(client.make(world, kind, &name)?)),
+        Request::Begin => Ok(Response::Begun(client.begin(world)?)),
         Request::Call(name, operation) => {
             let reply = client.ask(world, &name, operation, When::Now)?;
-            Ok(Said::Replied(reply))
+            Ok(Response::Replied(reply))
         }
         Request::Later(name, call) => {
             let reply = client.ask(world, &name, Operation::Call(call), When::AtCommit)?;
-            Ok(Said::Replied(reply))
+            Ok(Response::Replied(reply))
         }
-        Request::Commit => Ok(Said::Placed(client.commit(world)?)),
+        Request::Commit => Ok(Response::Placed(client.commit(world)?)),
         Request::Abort => {
             client.abort(world)?;
-            Ok(Said::Aborted)
+            Ok(Response::Aborted)
         }
-        Request::Kept => Ok(said_of(client.is_kept(world))),
+        Request::Kept => Ok(response_of(client.is_kept(world))),
     }
 }
 
 /// What is said of a client's ticket: whether it is kept, if there is one.
-pub fn said_of(kept: Option<bool>) -> Said
-    ensures { result ≡ said_kept kept }
+pub fn response_of(kept: Option<bool>) -> Response
+    ensures { result ≡ response_kept kept }
 {
     match kept {
-        None => Said::NoTicket,
-        Some(true) => Said::Kept,
-        Some(false) => Said::NotYet,
+        None => Response::NoTicket,
+        Some(true) => Response::Kept,
+        Some(false) => Response::NotYet,
     }
 }

@@ -1,5 +1,5 @@
 // Who writes what a client is told.
-ghost use Rattle.std.specs.Prelude.{[], ◌∷◌, None, OnOk};
+ghost use Rattle.std.specs.Prelude.{[], ◌∷◌, None};
 ghost use Rattle.talks.specs.Hearing.{Hears};
 
 use crate::hearing::{Attention, Hearer};
@@ -38,8 +38,8 @@ impl<'a, O: Output + Drop> Printer<'a, O> {
         }
     }
 
-    /// The same, behind whose Lost stands what ended keeping, and behind a status since when a write
-    /// or sync of the disk goes on, while one does.
+    /// The same, behind whose Lost stands what ended keeping, and behind a status since when a
+    /// write or sync of the disk goes on, while one does.
     pub fn with_state(self, state: &'a KeepingState<'a>) -> Self {
         Self {
             state: Some(state),
@@ -81,7 +81,7 @@ impl<'a, O: Output + Drop> Printer<'a, O> {
 
 impl<S: Display + Drop, O: Output + Drop> Hearer<S> for Printer<'_, O> {
     fn hear(&mut self, told: Told<S>) -> io::Result<()>
-        ensures { OnOk result (Hears {S = S} None None (told ∷ [])) }
+        ensures { Hears {S = S} None None (told ∷ []) }
     {
         self.write_told(&told)?;
         if self.text.len() > MOST_BACK {

@@ -5,11 +5,11 @@ ghost use Rattle.script.specs.declared.action.Operation.{Operation};
 ghost use Rattle.clients.specs.Calls.{IsOpen, Aborts};
 ghost use Rattle.calls.specs.declared.when.When.{When};
 ghost use Rattle.talks.specs.Sessions.{Makes, Begins, InOpen, Asks, AsksFor, Commits, Looks};
-ghost use Rattle.talks.specs.Sessions.{Obeys, Says, Ends, session, said_placed, ticket_after};
+ghost use Rattle.talks.specs.Sessions.{Obeys, Says, Ends, session, response_placed, ticket_after};
 ghost use Rattle.talks.specs.Requests.{telling};
-ghost use Rattle.talks.specs.declared.texts.Said.{Said};
+ghost use Rattle.talks.specs.declared.texts.Response.{Response};
 
-use crate::{End, Said, said_of};
+use crate::{End, Response, response_of};
 use calls::{Call, Kind, Name, Refusal, Reply, When};
 use clients::{Client, Ticket};
 use desks::Naming;
@@ -22,13 +22,13 @@ pub(crate) fn say<J: Naming, R: Wait>(
     client: &mut Client<'_, J>,
     ticket: &mut Option<Ticket>,
     request: &Request,
-) -> Said
+) -> Response
     ensures { Says J.origin (session client.old ticket.old) request.now result
         (session client.new ticket.new) }
 {
     match obey(rt, client, ticket, request) {
-        Ok(said) => said,
-        Err(refusal) => Said::Refused(refusal),
+        Ok(response) => response,
+        Err(refusal) => Response::Refused(refusal),
     }
 }
 
@@ -56,37 +56,37 @@ fn obey<J: Naming, R: Wait>(
     client: &mut Client<'_, J>,
     ticket: &mut Option<Ticket>,
     request: &Request,
-) -> Result<Said, Refusal>
+) -> Result<Response, Refusal>
     ensures { Obeys J.origin (session client.old ticket.old) request.now result
         (session client.new ticket.new) }
 {
     match request {
         Request::Make(kind, name) => placed(make(rt, client, *kind, name), ticket),
-        Request::Begin => begin(client).map(Said::Begun),
-        Request::Call(name, operation) => call(rt, client, name, operation).map(Said::Replied),
-        Request::Later(name, call) => defer(rt, client, name, call).map(Said::Replied),
+        Request::Begin => begin(client).map(Response::Begun),
+        Request::Call(name, operation) => call(rt, client, name, operation).map(Response::Replied),
+        Request::Later(name, call) => defer(rt, client, name, call).map(Response::Replied),
         Request::Commit => placed(commit(rt, client), ticket),
         Request::Abort => aborted(abort(rt, client)),
-        Request::Kept => Ok(said_of(is_kept(client, *ticket))),
+        Request::Kept => Ok(response_of(is_kept(client, *ticket))),
     }
 }
 
 // What is said of a ticket, which is the last one then.
-fn placed(given: Result<Ticket, Refusal>, ticket: &mut Option<Ticket>) -> Result<Said, Refusal>
-    ensures said { result ≡ telling said_placed given }
+fn placed(given: Result<Ticket, Refusal>, ticket: &mut Option<Ticket>) -> Result<Response, Refusal>
+    ensures response { result ≡ telling response_placed given }
     ensures last { ticket.new ≡ ticket_after ticket.old given }
 {
     let given = given?;
     *ticket = Some(given);
-    Ok(Said::Placed(given.place))
+    Ok(Response::Placed(given.place))
 }
 
 // What is said of a transaction that was to be taken back.
-fn aborted(done: Result<(), Refusal>) -> Result<Said, Refusal>
-    ensures { result ≡ telling (λ done. Said.Aborted) done }
+fn aborted(done: Result<(), Refusal>) -> Result<Response, Refusal>
+    ensures { result ≡ telling (λ done. Response.Aborted) done }
 {
     done?;
-    Ok(Said::Aborted)
+    Ok(Response::Aborted)
 }
 
 // Makes a collection.

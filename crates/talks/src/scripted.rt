@@ -73,7 +73,7 @@ fn answer<J: Naming, R: Wait>(
         Action::Client(of, request) if *of == number => {
             Some(Answer {
                 number: line.number,
-                said: say(rt, client, ticket, request),
+                response: say(rt, client, ticket, request),
             })
         }
         _ => None,

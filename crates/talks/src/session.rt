@@ -3,7 +3,7 @@ ghost use Rattle.std.specs.Prelude.{◌≡◌, None};
 ghost use Rattle.talks.specs.Sessions.{session};
 
 use crate::requests::{end, say};
-use crate::{End, Said, Speaker};
+use crate::{End, Response, Speaker};
 use calls::{Refusal, Reply};
 use clients::{Client, Moment, Ticket};
 use desks::Naming;
@@ -16,37 +16,55 @@ use std::sync::Wait;
 /// A client of a store that threads share, to speak with: what it knows of the store, and the
 /// ticket of what it last committed or made.
 #[derive(Drop)]
-pub struct Session<'c, 's, J: Naming> {
-    client: &'c mut Client<'s, J>,
+pub struct Session<'s, J: Naming> {
+    client: Client<'s, J>,
     ticket: Option<Ticket>,
 }
 
-impl<'c, 's, J: Naming> Model for Session<'c, 's, J> {
+impl<'s, J: Naming> Model for Session<'s, J> {
     ghost use Rattle.talks.specs.Sessions.{SessionState, session};
 
     ghost Value = { SessionState };
 
-    ghost view = { λ s. session s.client.now s.ticket };
+    ghost view = { λ s. session s.client s.ticket };
 }
 
-impl<'c, 's, J: Naming> Session<'c, 's, J> {
+impl<'s, J: Naming> Session<'s, J> {
     /// A session that has no ticket yet.
-    pub fn new(client: &'c mut Client<'s, J>) -> Self
-        ensures { result ≡ session client.old None }
+    pub fn new(client: Client<'s, J>) -> Self
+        ensures { result ≡ session client.entry None }
     {
         Self {
             client,
             ticket: None,
         }
     }
+
+    // The same with no ticket.
+    pub(crate) fn begin_anew(&mut self)
+        ensures { self.new ≡ session self.old.known None }
+    {
+        self.ticket = None;
+    }
+
+    /// The client, behind what was said.
+    pub fn into_client(self) -> Client<'s, J>
+        ensures { result ≡ self.entry.known }
+    {
+        let Self {
+            client,
+            ticket: _ticket,
+        } = self;
+        client
+    }
 }
 
-impl<J: Naming> Speaker for Session<'_, '_, J> {
+impl<J: Naming> Speaker for Session<'_, J> {
     ghost use Rattle.std.specs.Prelude.{◌≡◌, [], ◌∷◌};
-    ghost use Rattle.talks.specs.Sessions.{Says, Ends, said_place, IsRefusal};
+    ghost use Rattle.talks.specs.Sessions.{Says, Ends, response_place, IsRefusal};
     ghost use Rattle.clients.specs.Calls.{Hears, IsOpen};
 
-    type Said = Said;
+    type Response = Response;
 
     ghost says = { Says J.origin };
 
@@ -58,20 +76,23 @@ impl<J: Naming> Speaker for Session<'_, '_, J> {
 
     ghost is_open = { λ s. IsOpen s.known.phase };
 
-    ghost placed = { said_place };
+    ghost placed = { response_place };
 
     ghost refuses = { IsRefusal };
 
     /// Carries a request out, and says what it is answered: a refusal of the store too. It waits
     /// for locks of the book alone.
-    fn say<R: Wait>(&mut self, rt: &R, request: &Request) -> Said {
-        say(rt, self.client, &mut self.ticket, request)
+    fn say<R: Wait>(&mut self, rt: &R, request: &Request) -> Response {
+        let mut ticket = self.ticket;
+        let response = say(rt, &mut self.client, &mut ticket, request);
+        self.ticket = ticket;
+        response
     }
 
     /// Waits for the client's last ticket, if it has one: some committer has to take turns
     /// meanwhile, or have met a fault of the disk.
     fn end<R: Wait>(&mut self, rt: &R) -> End {
-        end(rt, self.client, self.ticket)
+        end(rt, &mut self.client, self.ticket)
     }
 
     /// Whether keeping has failed, as `Client::has_failed` tells it.
@@ -104,21 +125,21 @@ impl<J: Naming> Speaker for Session<'_, '_, J> {
         self.client.is_open()
     }
 
-    fn place(said: &Said) -> Option<u64> {
-        match said {
-            Said::Placed(place) => Some(*place),
+    fn place(response: &Response) -> Option<u64> {
+        match response {
+            Response::Placed(place) => Some(*place),
             _ => None,
         }
     }
 
-    fn is_refusal(said: &Said) -> bool {
-        matches!(said, Said::Refused(_))
+    fn is_refusal(response: &Response) -> bool {
+        matches!(response, Response::Refused(_))
     }
 
-    fn is_fruitless(said: &Said) -> bool {
+    fn is_fruitless(response: &Response) -> bool {
         matches!(
-            said,
-            Said::Replied(Reply::Nothing) | Said::Refused(Refusal::Busy(_))
+            response,
+            Response::Replied(Reply::Nothing) | Response::Refused(Refusal::Busy(_))
         )
     }
 }

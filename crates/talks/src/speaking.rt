@@ -35,10 +35,10 @@ pub trait Speaker {
     ghost use Rattle.talks.specs.declared.speaking.End.{End};
 
     /// What a request is answered.
-    type Said: fmt::Display + Drop;
+    type Response: fmt::Display + Drop;
 
     /// A request is carried out, and answered so.
-    ghost says: { Self → Request → Self.Said → Self → Type 0 };
+    ghost says: { Self → Request → Self.Response → Self → Type 0 };
 
     /// A wait for what was last committed or made ends so.
     ghost ends: { Self → End → Self → Type 0 };
@@ -50,13 +50,13 @@ pub trait Speaker {
     ghost is_open: { Self → Type 0 };
 
     /// The place that an answer tells, which that of a commit does where it is accepted.
-    ghost placed: { Self.Said → Option ℕ };
+    ghost placed: { Self.Response → Option ℕ };
 
     /// An answer is a refusal.
-    ghost refuses: { Self.Said → Type 0 };
+    ghost refuses: { Self.Response → Type 0 };
 
     /// Carries a request out.
-    fn say<R: Wait>(&mut self, rt: &R, request: &Request) -> Self::Said
+    fn say<R: Wait>(&mut self, rt: &R, request: &Request) -> Self::Response
         ensures { says self.old request.now result self.new };
 
     /// Waits until what was last committed or made is kept.
@@ -74,8 +74,8 @@ pub trait Speaker {
     fn status<R: Wait>(&self, rt: &R, alloc: Global) -> Result<String, Refusal>
         ensures { IsOkUnless result Refusal.NoMemory };
 
-    /// Lines up with those who wait: what it asks for from here on is noted. Those who give the same
-    /// number ask for the same thing, and of these the first alone is woken.
+    /// Lines up with those who wait: what it asks for from here on is noted. Those who give the
+    /// same number ask for the same thing, and of these the first alone is woken.
     fn line_up<R: Wait + Clock>(&mut self, rt: &R, alike: u64)
         ensures { self.new ≡ self.old };
 
@@ -93,13 +93,13 @@ pub trait Speaker {
         ensures { IsTrue result ↔ is_open self.now };
 
     /// The place that an answer tells, if it tells one.
-    fn place(said: &Self::Said) -> Option<u64>
-        ensures { result ≡ placed said.now };
+    fn place(response: &Self::Response) -> Option<u64>
+        ensures { result ≡ placed response.now };
 
     /// Whether an answer is a refusal.
-    fn is_refusal(said: &Self::Said) -> bool
-        ensures { IsTrue result ↔ refuses said.now };
+    fn is_refusal(response: &Self::Response) -> bool
+        ensures { IsTrue result ↔ refuses response.now };
 
     /// Whether an answer says that there was nothing, or that another transaction was in the way.
-    fn is_fruitless(said: &Self::Said) -> bool;
+    fn is_fruitless(response: &Self::Response) -> bool;
 }

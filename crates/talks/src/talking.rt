@@ -57,7 +57,7 @@ pub struct Ended {
 /// The taking back is refused where too many records wait for the disk, or memory is wanting; it is
 /// tried many times. Where it is refused for good `is_taken_back` is false, and the speaker must
 /// not have another talk.
-pub fn talk<R: Wait + Clock + AllocGlobal, S: Speaker, I: Lines, H: Hearer<S::Said>>(
+pub fn talk<R: Wait + Clock + AllocGlobal, S: Speaker, I: Lines, H: Hearer<S::Response>>(
     rt: &R,
     speaker: &mut S,
     lines: &mut I,
@@ -86,7 +86,7 @@ struct Pending {
 }
 
 // Talks with a client.
-fn talk_on<R: Wait + Clock + AllocGlobal, S: Speaker, I: Lines, H: Hearer<S::Said>>(
+fn talk_on<R: Wait + Clock + AllocGlobal, S: Speaker, I: Lines, H: Hearer<S::Response>>(
     rt: &R,
     speaker: &mut S,
     lines: &mut I,
@@ -108,7 +108,7 @@ fn talk_on<R: Wait + Clock + AllocGlobal, S: Speaker, I: Lines, H: Hearer<S::Sai
 }
 
 // Reads a line and answers it, and says why the talk ends, if it does.
-fn turn<R: Wait + Clock + AllocGlobal, S: Speaker, I: Lines, H: Hearer<S::Said>>(
+fn turn<R: Wait + Clock + AllocGlobal, S: Speaker, I: Lines, H: Hearer<S::Response>>(
     rt: &R,
     speaker: &mut S,
     lines: &mut I,
@@ -139,7 +139,7 @@ fn turn<R: Wait + Clock + AllocGlobal, S: Speaker, I: Lines, H: Hearer<S::Said>>
 
 // Answers what was found, and says why the talk ends, if it does. In a silence what is open is
 // taken back, and the next line that asks for something is told so, and no more.
-fn answer<R: Wait + Clock + AllocGlobal, S: Speaker, H: Hearer<S::Said>>(
+fn answer<R: Wait + Clock + AllocGlobal, S: Speaker, H: Hearer<S::Response>>(
     rt: &R,
     speaker: &mut S,
     found: Found,
@@ -147,7 +147,7 @@ fn answer<R: Wait + Clock + AllocGlobal, S: Speaker, H: Hearer<S::Said>>(
     hearer: &mut H,
 ) -> Option<Why>
     ensures line { pending.new.line ≡ pending.old.line }
-    ensures answered { (told : Option (Told S.Said)) × (next : Option Why) ×
+    ensures answered { (told : Option (Told S.Response)) × (next : Option Why) ×
         IsAnswered ⟦<S as Speaker>⟧ found speaker.old pending.old.is_undone pending.old.line.items
         told next speaker.new pending.new.is_undone ×
         IsHeard (H.heard hearer.old) (H.heard hearer.new) told next result }
@@ -181,13 +181,13 @@ fn turn_away<S, H: Hearer<S>>(found: Found, pending: &mut Pending, hearer: &mut 
 }
 
 // Answers a line, and says why the talk ends, if it does.
-fn answer_line<R: Wait + Clock + AllocGlobal, S: Speaker, H: Hearer<S::Said>>(
+fn answer_line<R: Wait + Clock + AllocGlobal, S: Speaker, H: Hearer<S::Response>>(
     rt: &R,
     speaker: &mut S,
     line: &[u8],
     hearer: &mut H,
 ) -> Option<Why>
-    ensures { (told : Option (Told S.Said)) × (next : Option Why) ×
+    ensures { (told : Option (Told S.Response)) × (next : Option Why) ×
         IsLineAnswered ⟦<S as Speaker>⟧ speaker.old line.now told next speaker.new ×
         IsHeard (H.heard hearer.old) (H.heard hearer.new) told next result }
 {

@@ -5,7 +5,7 @@ use std::fmt;
 
 /// What a line answers.
 #[derive(Drop)]
-pub enum Said {
+pub enum Response {
     /// The count of commits and makes since the store was opened, this one included.
     Placed(u64),
     /// The number of the transaction that begins.
@@ -26,21 +26,21 @@ pub enum Said {
     Refused(Refusal),
 }
 
-impl fmt::Display for Said {
+impl fmt::Display for Response {
     fn fmt<W: fmt::Write>(&self, f: &mut fmt::Formatter<W>) -> fmt::Result {
         let (text, number) = match self {
-            Said::Placed(place) => ("place", Some(*place)),
-            Said::Begun(number) => ("begun", Some(*number)),
-            Said::Replied(reply) => return write_reply(f, reply),
-            Said::Aborted => ("aborted", None),
-            Said::Kept => ("kept", None),
-            Said::NotYet => ("not yet", None),
-            Said::NoTicket => ("no ticket", None),
-            Said::Turned(Turn::Idle) => ("idle", None),
-            Said::Turned(Turn::Kept(place)) => ("kept", Some(*place)),
-            Said::Turned(Turn::Held) => ("held", None),
-            Said::Flipped(mark) => ("flipped", Some(*mark)),
-            Said::Refused(refusal) => {
+            Response::Placed(place) => ("place", Some(*place)),
+            Response::Begun(number) => ("begun", Some(*number)),
+            Response::Replied(reply) => return write_reply(f, reply),
+            Response::Aborted => ("aborted", None),
+            Response::Kept => ("kept", None),
+            Response::NotYet => ("not yet", None),
+            Response::NoTicket => ("no ticket", None),
+            Response::Turned(Turn::Idle) => ("idle", None),
+            Response::Turned(Turn::Kept(place)) => ("kept", Some(*place)),
+            Response::Turned(Turn::Held) => ("held", None),
+            Response::Flipped(mark) => ("flipped", Some(*mark)),
+            Response::Refused(refusal) => {
                 let number = refusal.number();
                 return write!(f, "refused {number} {refusal}");
             }

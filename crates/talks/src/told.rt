@@ -7,7 +7,7 @@ use std::fmt;
 #[derive(Drop)]
 pub enum Told<S> {
     /// What its request was answered, or the call or commit at which all of a line was refused.
-    Said(S),
+    Response(S),
     /// Why all that the line asked for was refused; or Lost, where keeping has failed.
     Refused(Refusal),
     /// How its wait ended.
@@ -35,16 +35,16 @@ pub enum Told<S> {
 impl<S: fmt::Display> fmt::Display for Told<S> {
     fn fmt<W: fmt::Write>(&self, f: &mut fmt::Formatter<W>) -> fmt::Result {
         match self {
-            Told::Said(said) => write!(f, "{said}"),
+            Told::Response(response) => write!(f, "{response}"),
             Told::Refused(refusal) => write!(f, "refused {} {refusal}", refusal.number()),
             Told::Waited(end) => write!(f, "{end}"),
             Told::Kept(place) => write!(f, "kept {place}"),
-            Told::Done(saids, place) => {
-                write_all(f, saids.as_slice())?;
+            Told::Done(responses, place) => {
+                write_all(f, responses.as_slice())?;
                 write!(f, "place {place}")
             }
-            Told::DoneAndKept(saids, place) => {
-                write_all(f, saids.as_slice())?;
+            Told::DoneAndKept(responses, place) => {
+                write_all(f, responses.as_slice())?;
                 write!(f, "kept {place}")
             }
             Told::Status(text, false) => f.write_str(text.as_str()),
@@ -61,10 +61,10 @@ impl<S: fmt::Display> fmt::Display for Told<S> {
 // What each call was answered, with a semicolon behind it.
 fn write_all<S: fmt::Display, W: fmt::Write>(
     f: &mut fmt::Formatter<W>,
-    saids: &[S],
+    responses: &[S],
 ) -> fmt::Result {
-    for said in saids {
-        write!(f, "{said}; ")?;
+    for response in responses {
+        write!(f, "{response}; ")?;
     }
     Ok(())
 }

@@ -33,7 +33,7 @@ pub fn run_line<R: Wait, S: Speaker>(
     alloc: Global,
     speaker: &mut S,
     calls: &[Request],
-) -> Outcome<S::Said>
+) -> Outcome<S::Response>
     ensures { Does ⟦<S as Speaker>⟧ speaker.old calls.now result speaker.new }
 {
     if speaker.is_open() {
@@ -49,12 +49,12 @@ pub fn transact<R: Wait, S: Speaker>(
     alloc: Global,
     speaker: &mut S,
     calls: &[Request],
-) -> Outcome<S::Said>
+) -> Outcome<S::Response>
     ensures { Transacts ⟦<S as Speaker>⟧ speaker.old calls.now result speaker.new }
 {
     let begun = speaker.say(rt, &Request::Begin);
     if S::is_refusal(&begun) {
-        return Outcome::Refused(Told::Said(begun), true);
+        return Outcome::Refused(Told::Response(begun), true);
     }
     drop(begun);
     finish(rt, alloc, speaker, calls)
@@ -66,24 +66,28 @@ fn finish<R: Wait, S: Speaker>(
     alloc: Global,
     speaker: &mut S,
     calls: &[Request],
-) -> Outcome<S::Said>
+) -> Outcome<S::Response>
     ensures { Finishes ⟦<S as Speaker>⟧ speaker.old calls.now result speaker.new }
 {
-    let mut saids = Vec::new(alloc);
-    match run_calls(rt, speaker, calls, &mut saids) {
-        None => commit(rt, speaker, saids),
+    let mut responses = Vec::new(alloc);
+    match run_calls(rt, speaker, calls, &mut responses) {
+        None => commit(rt, speaker, responses),
         Some(told) => Outcome::Refused(told, take_back(rt, speaker)),
     }
 }
 
 // Commits the open transaction, whose calls were answered so.
-pub fn commit<R: Wait, S: Speaker>(rt: &R, speaker: &mut S, saids: Vec<S::Said>) -> Outcome<S::Said>
-    ensures { Commits ⟦<S as Speaker>⟧ speaker.old saids.items result speaker.new }
+pub fn commit<R: Wait, S: Speaker>(
+    rt: &R,
+    speaker: &mut S,
+    responses: Vec<S::Response>,
+) -> Outcome<S::Response>
+    ensures { Commits ⟦<S as Speaker>⟧ speaker.old responses.items result speaker.new }
 {
-    let said = speaker.say(rt, &Request::Commit);
-    match S::place(&said) {
-        Some(place) => Outcome::Committed(saids, place),
-        None => Outcome::Refused(Told::Said(said), take_back(rt, speaker)),
+    let response = speaker.say(rt, &Request::Commit);
+    match S::place(&response) {
+        Some(place) => Outcome::Committed(responses, place),
+        None => Outcome::Refused(Told::Response(response), take_back(rt, speaker)),
     }
 }
 
@@ -93,19 +97,19 @@ pub fn run_calls<R: Wait, S: Speaker>(
     rt: &R,
     speaker: &mut S,
     calls: &[Request],
-    saids: &mut Vec<S::Said>,
-) -> Option<Told<S::Said>>
-    requires { saids.old.items ≡ [] }
+    responses: &mut Vec<S::Response>,
+) -> Option<Told<S::Response>>
+    requires { responses.old.items ≡ [] }
     ensures { MatchOption result
-        (RunsCalls ⟦<S as Speaker>⟧ speaker.old calls.now saids.new.items speaker.new)
+        (RunsCalls ⟦<S as Speaker>⟧ speaker.old calls.now responses.new.items speaker.new)
         (λ told. Stops ⟦<S as Speaker>⟧ speaker.old calls.now told speaker.new) }
 {
     for call in calls {
-        let said = speaker.say(rt, call);
-        if S::is_refusal(&said) {
-            return Some(Told::Said(said));
+        let response = speaker.say(rt, call);
+        if S::is_refusal(&response) {
+            return Some(Told::Response(response));
         }
-        let Ok(()) = saids.push(said) else {
+        let Ok(()) = responses.push(response) else {
             return Some(Told::Refused(Refusal::NoMemory));
         };
     }

@@ -1,5 +1,5 @@
 // What the clients of a script are told.
-use crate::{End, Said};
+use crate::{End, Response};
 use std::fmt;
 
 /// What a line of a script was answered.
@@ -7,7 +7,7 @@ use std::fmt;
 pub struct Answer {
     /// The number of the line.
     pub number: u64,
-    pub said: Said,
+    pub response: Response,
 }
 
 /// What a client's lines were answered, in their order, and what it was told at the end.
@@ -23,8 +23,8 @@ pub struct Transcript {
 impl fmt::Display for Transcript {
     fn fmt<W: fmt::Write>(&self, f: &mut fmt::Formatter<W>) -> fmt::Result {
         writeln!(f, "c{}:", self.client)?;
-        for Answer { number, said } in &self.answers {
-            writeln!(f, "{number}: {said}")?;
+        for Answer { number, response } in &self.answers {
+            writeln!(f, "{number}: {response}")?;
         }
         writeln!(f, "end: {}", self.end)
     }

@@ -12,20 +12,20 @@ use Rattle.calls.specs.declared.when.When.{When}
 use Rattle.calls.specs.Contents.{Collection, AnswersAt, after_at}
 use Rattle.calls.specs.Reads.{reads}
 use Rattle.calls.specs.Transactions.{Event, Entry, Asked, Act, Asks, Makes, own, committed_after}
-use Rattle.record_format.specs.declared.record.Record.{Record}
-use Rattle.record_format.specs.Acts.{acts_of_record}
-use Rattle.machine.specs.Machine.{State, IsSettled, Steps}
-use Rattle.machine.specs.Sound.{IsSound}
-use Rattle.machine.specs.Theory.Rules.{RuleLaws}
-use Rattle.machine.specs.Theory.Collections.{collection_rules}
-use Rattle.machine.proofs.NamedContents.{serial_told}
-use Rattle.machine.proofs.Steps.{none_live}
-use Rattle.machine.proofs.Readings.{one_read, one_unread}
-use Rattle.machine.proofs.RecordRuns as machine
-use Rattle.machine.proofs.RecordRuns.{gathered, committed_append, Tells}
-use Rattle.txn.specs.declared.steps.Action.{Action}
-use Rattle.txn.specs.declared.steps.BookStep.{BookStep}
-use Rattle.txn.specs.declared.steps.Target.{Target}
+use Rattle.records.specs.declared.record.Record.{Record}
+use Rattle.records.specs.Acts.{acts_of_record}
+use Rattle.steps.specs.Machine.{State, IsSettled, Steps}
+use Rattle.steps.specs.Sound.{IsSound}
+use Rattle.steps.specs.Theory.Rules.{RuleLaws}
+use Rattle.steps.specs.Theory.Collections.{collection_rules}
+use Rattle.steps.proofs.NamedContents.{serial_told}
+use Rattle.steps.proofs.Steps.{none_live}
+use Rattle.steps.proofs.Readings.{one_read, one_unread}
+use Rattle.steps.proofs.RecordRuns as machine
+use Rattle.steps.proofs.RecordRuns.{gathered, committed_append, Tells}
+use Rattle.txn.specs.declared.actions.Action.{Action}
+use Rattle.txn.specs.declared.actions.BookStep.{BookStep}
+use Rattle.txn.specs.declared.actions.Target.{Target}
 use Rattle.txn.specs.Rows.{Standing, IsMade, IsUndone, AskAnswers, record_of, later_record}
 use Rattle.txn.specs.Histories.{acts_of_action, Adds, Shifts, Row, IsLegal, ComesTo}
 use Rattle.boosted.specs.Meaning.{Meaning}

@@ -12,28 +12,28 @@ use Rattle.calls.specs.declared.refusal.Refusal.{Refusal}
 use Rattle.calls.specs.Transactions.{Event}
 use Rattle.undo_log.specs.Logs.{Lives}
 use Rattle.boosted.proofs.Each.{each_append, each_back}
-use Rattle.record_format.specs.declared.record.Record.{Record}
-use Rattle.record_format.specs.Acts.{places}
-use Rattle.record_format.specs.Records.{IsRecord, IsNumber}
-use Rattle.record_format.proofs.CallRecords.{later_is_record}
-use Rattle.machine.specs.Machine.{State, BeginRow, CommitRow, EndedRow, FallRow, MakeRow, CallRow}
-use Rattle.machine.specs.Machine.{LaterRow, BackRow, ReadRow, UnreadRow}
+use Rattle.records.specs.declared.record.Record.{Record}
+use Rattle.records.specs.Acts.{places}
+use Rattle.records.specs.Records.{IsRecord, IsNumber}
+use Rattle.records.proofs.CallRecords.{later_is_record}
+use Rattle.steps.specs.Machine.{State, BeginRow, CommitRow, EndedRow, FallRow, MakeRow, CallRow}
+use Rattle.steps.specs.Machine.{LaterRow, BackRow, ReadRow, UnreadRow}
 use Rattle.txn.specs.Rows.{record_of, later_record}
 use Rattle.txn.specs.Books.{BookState, opened, next_behind, Appends, Moves, CutAnswers, IsKept}
-use Rattle.machine.specs.Machines.{IsUpheld}
-use Rattle.blocks.specs.declared.block.Block.{Block}
-use Rattle.machine.specs.Sound.{IsSound}
-use Rattle.machine.proofs.LiveNumbers.{nobody, lives_more, lives_fewer}
-use Rattle.machine.proofs.BookLaws.{BookLaws}
-use Rattle.machine.proofs.InvariantRows.{make_names, make_upheld, begin_upheld, call_names}
-use Rattle.machine.proofs.InvariantRows.{call_upheld}
-use Rattle.machine.proofs.InvariantRows.{later_names, later_upheld, commit_names, commit_upheld}
-use Rattle.machine.proofs.InvariantRows.{ended_upheld, fallen_lives, back_names, back_upheld}
-use Rattle.machine.proofs.InvariantRows.{fall_upheld}
-use Rattle.machine.proofs.InvariantRows.{resting_upheld}
-use Rattle.machine.proofs.Readings.{read_upheld, unread_upheld}
-use Rattle.machine.proofs.Sizes.{append_length, len_begun, len_fallen, len_left, pushed_length}
-use Rattle.blocks.proofs.Places.{places_append, one_place}
+use Rattle.steps.specs.Machines.{IsUpheld}
+use Rattle.records.specs.declared.block.Block.{Block}
+use Rattle.steps.specs.Sound.{IsSound}
+use Rattle.steps.proofs.LiveNumbers.{nobody, lives_more, lives_fewer}
+use Rattle.steps.proofs.BookLaws.{BookLaws}
+use Rattle.steps.proofs.InvariantRows.{make_names, make_upheld, begin_upheld, call_names}
+use Rattle.steps.proofs.InvariantRows.{call_upheld}
+use Rattle.steps.proofs.InvariantRows.{later_names, later_upheld, commit_names, commit_upheld}
+use Rattle.steps.proofs.InvariantRows.{ended_upheld, fallen_lives, back_names, back_upheld}
+use Rattle.steps.proofs.InvariantRows.{fall_upheld}
+use Rattle.steps.proofs.InvariantRows.{resting_upheld}
+use Rattle.steps.proofs.Readings.{read_upheld, unread_upheld}
+use Rattle.steps.proofs.Sizes.{append_length, len_begun, len_fallen, len_left, pushed_length}
+use Rattle.records.proofs.Places.{places_append, one_place}
 use Rattle.boosted.specs.Meaning.{Meaning}
 use Rattle.catalog.specs.Making.{Making}
 
@@ -86,7 +86,7 @@ module _ {S : Type 0} (meaning : Meaning S ℕ) (making : Making S)
           upheld = keeps.upheld;
           below = λ n there. subst (λ k. n < k) next_is (keeps.below n there);
           next = subst (λ k. (1 ≤ k) × (k ≤ 2 ^ 61)) next_is keeps.next_fits;
-          positions = let before = kept.positions in let paid = keeps.paid in omega arith;
+          lsns = let before = kept.lsns in let paid = keeps.paid in omega arith;
           placed = let before = kept.placed in let more = places_append b.pending (r ∷ []) in
               omega arith;
           counted = let before = kept.counted in let one = one_place r in omega arith;
@@ -168,7 +168,7 @@ module _ {S : Type 0} (meaning : Meaning S ℕ) (making : Making S)
         row in
         keep_next (later_record n at call) c to refl
         (later_is_record None n at call (kept.upheld.numbers n row.can.running.live) few
-        row.can.put_off.1)
+        row.can.deferred.1)
         (later_upheld meaning making short laws b.state kept.upheld n at call c.state row)
         (λ k there. subst (λ (v : State S). Lives v.live k) row.is there) (omega arith)
 
@@ -223,7 +223,7 @@ module _ {S : Type 0} (meaning : Meaning S ℕ) (making : Making S)
         maps.len c.state.live ≡ maps.len b.state.live → c.state.wear ≡ b.state.wear →
         length (making.names c.state.now) ≡ length (making.names b.state.now) → Kept c
     keep_moved c is upheld lived same_live same_wear same_names =
-        let before = kept.positions in
+        let before = kept.lsns in
         subst Kept (sym is) (record {
           records = kept.records;
           few_pending = kept.few_pending;
@@ -231,7 +231,7 @@ module _ {S : Type 0} (meaning : Meaning S ℕ) (making : Making S)
           upheld = upheld;
           below = λ k there. kept.below k (lived k there);
           next = kept.next;
-          positions = omega arith;
+          lsns = omega arith;
           placed = kept.placed;
           counted = kept.counted;
         })
@@ -275,7 +275,7 @@ module _ {S : Type 0} (meaning : Meaning S ℕ) (making : Making S)
     handed_keeps first rest left are behind =
         let parts = ap length are ∙ append_length first rest in
         let pending = kept.few_pending in
-        let positions = kept.positions in
+        let lsns = kept.lsns in
         let placed = kept.placed in
         let counted = kept.counted in
         let commits = ap places are ∙ places_append first rest in
@@ -288,7 +288,7 @@ module _ {S : Type 0} (meaning : Meaning S ℕ) (making : Making S)
           upheld = kept.upheld;
           below = kept.below;
           next = kept.next;
-          positions = omega arith;
+          lsns = omega arith;
           placed = omega arith;
           counted = omega arith;
         }
@@ -342,7 +342,7 @@ module _ {S : Type 0} (meaning : Meaning S ℕ) (making : Making S)
           upheld = kept.upheld;
           below = kept.below;
           next = kept.next;
-          positions = kept.positions;
+          lsns = kept.lsns;
           placed = kept.placed;
           counted = kept.counted;
         })
@@ -361,7 +361,7 @@ module _ {S : Type 0} (meaning : Meaning S ℕ) (making : Making S)
         upheld = resting_upheld meaning making short laws format now wear reached unworn few spells;
         below = λ n lives. absurd (nobody n lives);
         next = fits;
-        positions = omega arith;
+        lsns = omega arith;
         placed = omega arith;
         counted = omega arith;
       }

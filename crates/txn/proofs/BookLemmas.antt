@@ -4,12 +4,12 @@ use Rattle.std.proofs.Common.{ap, arith, subst, ◌⊎◌, ◌↔◌, Contains}
 use Rattle.calls.specs.declared.refusal.Refusal.{Refusal}
 use Rattle.catalog.specs.Making as naming
 use Rattle.catalog.specs.Making.{Making}
-use Rattle.record_format.specs.declared.record.Record.{Record}
-use Rattle.record_format.specs.Records.{number}
-use Rattle.record_format.proofs.RecordLengths.{length-number}
+use Rattle.records.specs.declared.record.Record.{Record}
+use Rattle.records.specs.Records.{number}
+use Rattle.records.proofs.RecordLengths.{length-number}
 use Rattle.txn.specs.Rows.{Standing, MakeRefused}
-use Rattle.blocks.specs.Waits.{Waiting, waiting, freezes}
-use Rattle.blocks.specs.declared.draft.Handed.{Handed}
+use Rattle.records.specs.Waits.{Waiting, waiting, freezes}
+use Rattle.records.specs.declared.draft.Handed.{Handed}
 
 -- how long the record of a number is
 pub mark_length : (n : ℕ) → 9 ≡ suc (length (number 8 n))

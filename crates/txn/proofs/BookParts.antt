@@ -6,7 +6,7 @@ use Rattle.catalog.specs.declared.four.Four.{Four}
 use Rattle.catalog.specs.Fours.{Which, pick, put}
 use Rattle.catalog.specs.Laws.Numbers.{put_pick}
 use Rattle.catalog.specs.Making.{Making}
-use Rattle.shelf.specs.Shelves.{ShelfState}
+use Rattle.steps.specs.Shelves.{ShelfState}
 use Rattle.txn.specs.Books.{BookState}
 use Rattle.txn.specs.Shelved.{JournalState, book_state, IsBook, IsOfBook, LeadsOn}
 

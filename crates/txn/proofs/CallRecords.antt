@@ -4,8 +4,8 @@ use Rattle.calls.specs.declared.call.Call.{Call}
 use Rattle.calls.specs.declared.reply.Reply.{Reply}
 use Rattle.calls.specs.Contents.{Collection, AnswersAt}
 use Rattle.calls.specs.Rules.{Askable}
-use Rattle.record_format.specs.Records.{IsNumber, IsRecord, FitsCall, FitsReply}
-use Rattle.record_format.proofs.CallRecords.{call_is_record}
+use Rattle.records.specs.Records.{IsNumber, IsRecord, FitsCall, FitsReply}
+use Rattle.records.proofs.CallRecords.{call_is_record}
 use Rattle.txn.specs.Rows.{record_of}
 
 -- The call has a record.

@@ -1,6 +1,8 @@
 -- A gathering of a book in parts is one of the book.
-use Rattle.std.proofs.Common.{◌≡◌, ℕ, ◌≤◌, ◌<◌, zero, suc, List, [], ◌∷◌, length, Option, Some, None}
-use Rattle.std.proofs.Common.{Result, Ok, Err, Bool, IfOk, IfErr, IfSome, OnOk, slice_get, refl, sym}
+use Rattle.std.proofs.Common.{◌≡◌, ℕ, ◌≤◌, ◌<◌, zero, suc, List, [], ◌∷◌, length, Option, Some}
+use Rattle.std.proofs.Common.{None}
+use Rattle.std.proofs.Common.{Result, Ok, Err, Bool, IfOk, IfErr, IfSome, OnOk, slice_get, refl}
+use Rattle.std.proofs.Common.{sym}
 use Rattle.std.proofs.Common.{◌∙◌, ap, subst, arith}
 use Rattle.std.specs.List.{AllByRecursion}
 use Rattle.std.specs.Option.{option_map, unwrap_or}
@@ -17,16 +19,16 @@ use Rattle.catalog.specs.Making.{Making}
 use Rattle.catalog.specs.Places.{At}
 use Rattle.catalog.specs.Shelving.{ShelfLaws, CopyRefused}
 use Rattle.catalog.specs.Woven.{Label}
-use Rattle.shelf.specs.Shelves.{ShelfState}
-use Rattle.record_format.specs.Short.{AreShort, HoldsShort}
+use Rattle.steps.specs.Shelves.{ShelfState}
+use Rattle.records.specs.Short.{AreShort, HoldsShort}
 use Rattle.records.proofs.Items.{widest_all}
-use Rattle.machine.specs.Sound.{IsSound}
-use Rattle.machine.specs.Wholes.{contents}
+use Rattle.steps.specs.Sound.{IsSound}
+use Rattle.steps.specs.Wholes.{contents}
 use Rattle.images.specs.Gathers.{GatherState}
 use Rattle.images.specs.Gatherings.{GatheringState, CanGoOn, IsNextOf, part_of, GatherAnswers}
 use Rattle.images.specs.Gatherings.{GoesAlong}
 use Rattle.txn.specs.Books.{BookState, IsKept}
-use Rattle.txn.specs.Shelved.{JournalState, book_state, journal_position, IsBook}
+use Rattle.txn.specs.Shelved.{JournalState, book_state, journal_lsn, IsBook}
 use Rattle.txn.specs.Parts.{IsCopy, IsGivenNext, GathersOn}
 
 pub pick_now : {T : Type 0} (f : Four (ShelfState T)) (w : Which) →
@@ -79,7 +81,7 @@ renoted collections b n kept = record {
   upheld = kept.upheld;
   below = kept.below;
   next = kept.next;
-  positions = kept.positions;
+  lsns = kept.lsns;
   placed = kept.placed;
   counted = kept.counted;
 }
@@ -167,7 +169,7 @@ module _ {S T N P : Type 0} {meaning : Meaning S ℕ} {making : Making S}
       refused_so (Err e) why = why
 
       pub next_of : (many : ℕ) → many ≡ length (labels j.names) →
-          IsNextOf collections j.gathering now (journal_position j) g many (part_of collection part)
+          IsNextOf collections j.gathering now (journal_lsn j) g many (part_of collection part)
       next_of many is = record {
         of_this = given.gathered;
         count = is ∙ as_many j.names (contents f) given.book.joined.fit;
@@ -180,7 +182,7 @@ module _ {S T N P : Type 0} {meaning : Meaning S ℕ} {making : Making S}
       short_of None copy = tt
       short_of (Some p) copy = at_place (λ x. HoldsShort widest x.content) (collections now)
           (length g.parts) (collection p)
-          (widest_all j.accounts.format (collections now) given.book.joined.upheld.spells)
+          (widest_all j.transactions.format (collections now) given.book.joined.upheld.spells)
           (sym (copy_is j.names f (length g.parts) (Some p) given.book.joined.fit copy))
 
       pub short_part : CanGoOn j.gathering g →
@@ -194,9 +196,9 @@ pub gathers_on : {S T N P : Type 0} {meaning : Meaning S ℕ} {making : Making S
     {collection : P → Collection} (j : JournalState N) (f : Four (ShelfState T)) (g h : GatherState)
     (n : GatheringState) (result : Result Bool Refusal) →
     IsBook meaning making collections whole fits j f →
-    GatherAnswers (collections (whole j.names (contents f))) (journal_position j) j.gathering g
+    GatherAnswers (collections (whole j.names (contents f))) (journal_lsn j) j.gathering g
     result n h →
-    OnOk result (GoesAlong collections n (whole j.names (contents f)) (journal_position j) h) →
+    OnOk result (GoesAlong collections n (whole j.names (contents f)) (journal_lsn j) h) →
     GathersOn labels holds collection meaning making collections whole fits j f g result
     (record j { gathering = n }) h
 gathers_on {collections} {whole} j f g h n result book answers along = record {

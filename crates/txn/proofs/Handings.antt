@@ -14,19 +14,19 @@ use Rattle.boosted.specs.Meaning.{Meaning}
 use Rattle.boosted.proofs.Each.{weaker, each_append, each_back}
 use Rattle.boosted.proofs.Runs.{Leads-push}
 use Rattle.catalog.specs.Making.{Making}
-use Rattle.record_format.specs.declared.record.Record.{Record}
-use Rattle.record_format.specs.Records.{IsRecord}
-use Rattle.record_format.specs.Acts.{places}
-use Rattle.blocks.specs.declared.block.Block.{Block}
-use Rattle.blocks.specs.declared.block.Image.{Image}
-use Rattle.blocks.specs.Cuts.{HandsOver}
-use Rattle.blocks.specs.Packings.{joined}
-use Rattle.blocks.proofs.Places.{places_append}
-use Rattle.blocks.proofs.Carrying.{joined-push, carries_append}
-use Rattle.txn.specs.declared.steps.Action.{Action}
-use Rattle.txn.specs.declared.steps.BookStep.{BookStep}
+use Rattle.records.specs.declared.record.Record.{Record}
+use Rattle.records.specs.Records.{IsRecord}
+use Rattle.records.specs.Acts.{places}
+use Rattle.records.specs.declared.block.Block.{Block}
+use Rattle.records.specs.declared.block.Image.{Image}
+use Rattle.records.specs.Cuts.{HandsOver}
+use Rattle.records.specs.Packings.{joined}
+use Rattle.records.proofs.Places.{places_append}
+use Rattle.records.proofs.Carrying.{joined-push, carries_append}
+use Rattle.txn.specs.declared.actions.Action.{Action}
+use Rattle.txn.specs.declared.actions.BookStep.{BookStep}
 use Rattle.txn.specs.Rows.{Standing, opening}
-use Rattle.txn.specs.Books.{BookState, opened, position, standing, Takes, CutAnswers}
+use Rattle.txn.specs.Books.{BookState, opened, lsn, standing, Takes, CutAnswers}
 use Rattle.images.specs.Gathers.{GatherState}
 use Rattle.txn.specs.Freezing.{IsImageOf, Seals, FreezeAnswers}
 use Rattle.txn.specs.Histories.{LiveCalls, shows, shown_by, no_calls, records_of_action}
@@ -57,36 +57,36 @@ pub records_by-push : (steps : List BookStep) (x : BookStep) →
 records_by-push steps x = records_after-append no_calls steps (x ∷ []) ∙
     ap (λ l. records_by steps ++ l) (append-nil (records_then steps x.action))
 
--- ---- positions between blocks
+-- ---- LSNs between blocks
 
 module _ {S : Type 0} where
   -- where blocks may end stays where more records wait, or freezes are added
-  between_more : (groups : List (List Record)) (b c : BookState S) (position : ℕ) →
+  between_more : (groups : List (List Record)) (b c : BookState S) (lsn : ℕ) →
       c.end ≡ b.end → ((f : ℕ) → Contains b.freezes f → Contains c.freezes f) →
-      IsBetween groups b position → IsBetween groups c position
-  between_more groups b c position same more (inl waits) = inl waits
-  between_more groups b c position same more (inr pending) =
-      inr (omega (arith, same, pending.0), more position pending.1)
+      IsBetween groups b lsn → IsBetween groups c lsn
+  between_more groups b c lsn same more (inl waits) = inl waits
+  between_more groups b c lsn same more (inr pending) =
+      inr (omega (arith, same, pending.0), more lsn pending.1)
 
   -- and where a block is cut
   between_cut : (groups : List (List Record)) (b c : BookState S) (block : Block)
-      (position : ℕ) → b.end ≡ length (joined groups) →
+      (lsn : ℕ) → b.end ≡ length (joined groups) →
       (cut : HandsOver b.pending b.freezes b.end b.place block c.pending) → c.end ≡ block.end →
       ((f : ℕ) → Contains b.freezes f → block.end < f → Contains c.freezes f) →
-      IsBetween groups b position → IsBetween (groups ++ cut.first ∷ []) c position
-  between_cut groups b c block position ends cut end_is left (inl waits) =
+      IsBetween groups b lsn → IsBetween (groups ++ cut.first ∷ []) c lsn
+  between_cut groups b c block lsn ends cut end_is left (inl waits) =
       inl (
         waits.0,
         waits.1 ++ cut.first ∷ [],
         ap (λ l. l ++ cut.first ∷ []) waits.2 ∙ append_assoc waits.0 waits.1 (cut.first ∷ []),
         waits.3,
       )
-  between_cut groups b c block position ends cut end_is left (inr pending) =
-      let upto = cut.apart position pending.1 in
+  between_cut groups b c block lsn ends cut end_is left (inr pending) =
+      let upto = cut.apart lsn pending.1 in
       let now : joined (groups ++ cut.first ∷ []) ≡ joined groups ++ cut.first =
       joined-push groups cut.first in
       ⊎_elim
-      (λ (here : block.end ≡ position). inl (
+      (λ (here : block.end ≡ lsn). inl (
         groups ++ cut.first ∷ [],
         [],
         sym (append-nil (groups ++ cut.first ∷ [])),
@@ -99,10 +99,10 @@ module _ {S : Type 0} where
           length-append (joined groups) cut.first,
         ),
       ))
-      (λ (other : block.end ≡ position → ⊥). let less : block.end < position =
+      (λ (other : block.end ≡ lsn → ⊥). let less : block.end < lsn =
       omega (arith, upto, other) in
-      inr (omega (arith, end_is, less), left position pending.1 less))
-      (cases_eq block.end position)
+      inr (omega (arith, end_is, less), left lsn pending.1 less))
+      (cases_eq block.end lsn)
 
 -- A freeze that is refused leaves the book.
 pub frozen_not : {S : Type 0} (collections : S → List Collection) (b c : BookState S)
@@ -299,7 +299,7 @@ module _ {S : Type 0} (meaning : Meaning S ℕ) (making : Making S)
     cuts_on sends full (Err e) cut = absurd cut.0
 
     -- so many records came before
-    counted : position b ≡ length (records_by steps)
+    counted : lsn b ≡ length (records_by steps)
     counted = omega (
       arith,
       had.end,
@@ -307,8 +307,8 @@ module _ {S : Type 0} (meaning : Meaning S ℕ) (making : Making S)
       length-append (joined groups) b.pending,
     )
 
-    -- No block crosses the position behind the last record, once it is marked.
-    sealed_between : c.end ≡ b.end → Seals b c → IsBetween groups c (position b)
+    -- No block crosses the LSN behind the last record, once it is marked.
+    sealed_between : c.end ≡ b.end → Seals b c → IsBetween groups c (lsn b)
     sealed_between same seals = ⊎_elim
         (λ (none : length b.pending ≡ 0). inl (
           groups,
@@ -318,7 +318,7 @@ module _ {S : Type 0} (meaning : Meaning S ℕ) (making : Making S)
         ))
         (λ (some : length b.pending ≡ 0 → ⊥). inr (
           omega (arith, same, some),
-          (seals (position b)).1 (inr (refl, omega (arith, some))),
+          (seals (lsn b)).1 (inr (refl, omega (arith, some))),
         ))
         (cases_eq (length b.pending) 0)
 
@@ -345,10 +345,10 @@ module _ {S : Type 0} (meaning : Meaning S ℕ) (making : Making S)
         (ap (λ v. v.end) is) (ap (λ v. v.place) is)
         (λ f there. subst (λ l. Contains l f) (sym (ap (λ v. v.freezes) is)) there)
 
-    -- A gathering ends: no block crosses the position behind the last record,
+    -- A gathering ends: no block crosses the LSN behind the last record,
     pub freezes_gathered : (g h : GatherState) (a : Result (Unit {0}) Refusal) →
         FreezeAnswers collections b g (Ok tt) c h →
-        Handed (steps ++ step (Action.Freeze a) ∷ []) c handed groups (position b ∷ freezes) images
+        Handed (steps ++ step (Action.Freeze a) ∷ []) c handed groups (lsn b ∷ freezes) images
     freezes_gathered g h a froze =
         let is = froze.2 in
         let on = stays_on (Action.Freeze a) (ap standing is) refl (ap (λ v. v.pending) is)

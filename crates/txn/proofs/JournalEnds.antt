@@ -24,35 +24,36 @@ use Rattle.catalog.specs.Laws.Numbers.{pick_put}
 use Rattle.catalog.specs.Making.{Making, MakingLaws}
 use Rattle.catalog.specs.Shelving.{ShelfLaws}
 use Rattle.catalog.specs.Woven.{Label}
-use Rattle.shelf.specs.Shelves.{ShelfState, on_quarter, Settles}
-use Rattle.record_format.specs.declared.record.Record.{Record}
-use Rattle.record_format.specs.Short.{AreShort, IsShortReply}
+use Rattle.steps.specs.Shelves.{ShelfState, on_quarter, Settles}
+use Rattle.records.specs.declared.record.Record.{Record}
+use Rattle.records.specs.Short.{AreShort, IsShortReply}
 use Rattle.records.specs.Told.{Tells}
-use Rattle.machine.specs.Machine.{State, Does, IsRunning, HasNewestRead, CommitRow, EndedRow}
-use Rattle.machine.specs.Machine.{FallRow, UnreadRow, BackRow}
-use Rattle.machine.specs.Wholes.{AccountsState, state_on, contents, whole_state, IsJoined}
-use Rattle.machine.specs.Accounts.{alone, finished, CanUndo}
-use Rattle.machine.proofs.BookLaws.{BookLaws, book_laws}
-use Rattle.machine.proofs.FourShelves.{contents_pick}
-use Rattle.machine.proofs.InvariantRows.{commit_fits}
-use Rattle.machine.proofs.Joining as joining
-use Rattle.machine.proofs.Readings.{unread_settles}
-use Rattle.machine.proofs.Steps.{back_settles, commit_settles, ended_settles, fall_settles}
-use Rattle.machine.proofs.Steps.{laters_disposable}
-use Rattle.machine.proofs.UndoneCall.{newest_once, call_there, written_back}
-use Rattle.machine.proofs.WholeRuns.{undoes_join}
+use Rattle.steps.specs.Machine.{State, Does, IsRunning, HasNewestRead, CommitRow, EndedRow}
+use Rattle.steps.specs.Machine.{FallRow, UnreadRow, BackRow}
+use Rattle.steps.specs.Wholes.{TransactionsState, state_on, contents, whole_state, IsJoined}
+use Rattle.steps.specs.TransactionTables.{alone, finished, CanUndo}
+use Rattle.steps.proofs.BookLaws.{BookLaws, book_laws}
+use Rattle.steps.proofs.FourShelves.{contents_pick}
+use Rattle.steps.proofs.InvariantRows.{commit_fits}
+use Rattle.steps.proofs.Joining as joining
+use Rattle.steps.proofs.Readings.{unread_settles}
+use Rattle.steps.proofs.Steps.{back_settles, commit_settles, ended_settles, fall_settles}
+use Rattle.steps.proofs.Steps.{laters_disposable}
+use Rattle.steps.proofs.UndoneCall.{newest_once, call_there, written_back}
+use Rattle.steps.proofs.WholeRuns.{undoes_join}
 use Rattle.images.specs.declared.effect.Effect.{Effect}
 use Rattle.images.specs.Gatherings.{GatheringState, noted, to_note, effect_at, AreRun, TakesBack}
 use Rattle.images.proofs.OnShelf.{run_joins}
 use Rattle.images.proofs.Running.{are_run, late_short}
 use Rattle.images.proofs.Undoing.{newest_short, back_once}
-use Rattle.txn.specs.declared.steps.Action.{Action}
-use Rattle.txn.specs.Books.{BookState, position}
-use Rattle.txn.specs.Shelved.{JournalState, book_state, journal_position, Writes}
+use Rattle.txn.specs.declared.actions.Action.{Action}
+use Rattle.txn.specs.Books.{BookState, lsn}
+use Rattle.txn.specs.Shelved.{JournalState, book_state, journal_lsn, Writes}
 use Rattle.txn.specs.Shelved.{Charges, IsBook, IsJournal, IsOfBook, LeadsOn, LeadsBeside, Serves}
 use Rattle.txn.specs.Shelved.{IsServed, SettlesWhole, HasNewestAt}
-use Rattle.txn.proofs.BookInvariant.{back_keeps, fall_keeps, unread_keeps, commit_keeps, ended_keeps}
-use Rattle.txn.proofs.Goings.{goes_still, goes_ran, position_after}
+use Rattle.txn.proofs.BookInvariant.{back_keeps, fall_keeps, unread_keeps, commit_keeps}
+use Rattle.txn.proofs.BookInvariant.{ended_keeps}
+use Rattle.txn.proofs.Goings.{goes_still, goes_ran, lsn_after}
 use Rattle.txn.proofs.JournalSteps.{appended, moved, leads_on}
 use Rattle.txn.proofs.JournalSteps.{leads_beside}
 
@@ -77,11 +78,11 @@ found_there n es None there some = λ none. cc
 found_there n es (Some at) there some = newest_there n es there.0 there.1
 
 -- A record that waits does so whatever is charged.
-pub charged : {N : Type 0} (j k : JournalState N) (r : Record) (a : AccountsState) →
-    Writes j r k → Writes j r (record k { accounts = a })
+pub charged : {N : Type 0} (j k : JournalState N) (r : Record) (a : TransactionsState) →
+    Writes j r k → Writes j r (record k { transactions = a })
 charged j k r a writes = record {
   room = writes.room;
-  is = ap (λ (v : JournalState _). record v { accounts = a }) writes.is;
+  is = ap (λ (v : JournalState _). record v { transactions = a }) writes.is;
 }
 
 -- A newest call that is there, where none that only reads is, did not only read.
@@ -108,37 +109,39 @@ module _ {S T N : Type 0} {meaning : Meaning S ℕ} {making : Making S}
   abbrev Short : Format → S → Type 0
   Short form s = AreShort form (collections s)
 
-  -- What a transaction put off can be spelled.
+  -- What a transaction deferred can be spelled.
   pub laters_short : (j : JournalState N) → IsJournal meaning making collections whole fits j →
       (n : ℕ) →
-      AllByRecursion (λ e. IsShort widest e.call) (laters_of (own n j.accounts.entries))
+      AllByRecursion (λ e. IsShort widest e.call) (laters_of (own n j.transactions.entries))
   laters_short j book n =
-      let ls = laters_of (own n j.accounts.entries) in
+      let ls = laters_of (own n j.transactions.entries) in
       late_short ls (weaker (λ (e : Event). Disposable e.call × (e.reply ≡ Reply.Done))
       (λ (e : Event). Disposable e.call) (λ e l. l.0) ls
       (laters_disposable meaning making laws.rules
-      (whole_state whole j.names j.accounts book.0) book.1.kept.upheld.holds n))
+      (whole_state whole j.names j.transactions book.0) book.1.kept.upheld.holds n))
 
   -- ---- the newest call, on its shelf
 
   module _ (j : JournalState N) (s : ShelfState T) (n at : ℕ)
       (book : IsOfBook meaning making collections whole fits (which_of at) j s) (x : Event)
-      (newest : HasNewestCall n j.accounts.entries x) (on : HasNewestAt n j.accounts.entries at)
+      (newest : HasNewestCall n j.transactions.entries x)
+      (on : HasNewestAt n j.transactions.entries at)
     where
       pub newest_at : x.at ≡ at
-      newest_at = ap (λ (e : Event). e.at) (newest_once n j.accounts.entries x on.0 newest.0 on.1.0
+      newest_at = ap (λ (e : Event). e.at)
+          (newest_once n j.transactions.entries x on.0 newest.0 on.1.0
           newest.1 on.1.1).0 ∙ on.2
 
-      pub undo_here : CanUndo shelf j.accounts s n
-      undo_here = joining.undo_can shelves laws j.names j.accounts book.0 at s book.1.joined n x
+      pub undo_here : CanUndo shelf j.transactions s n
+      undo_here = joining.undo_can shelves laws j.names j.transactions book.0 at s book.1.joined n x
           newest newest_at
 
       pub reply_short : IsShortReply widest x.reply
-      reply_short = newest_short j.accounts.format n x j.accounts.entries newest.0 newest.1
+      reply_short = newest_short j.transactions.format n x j.transactions.entries newest.0 newest.1
           book.1.kept.upheld.asked
 
       pub reach_here : HasRoom shelf s.now
-      reach_here = joining.reach_join shelves laws j.names j.accounts book.0 at s book.1.joined
+      reach_here = joining.reach_join shelves laws j.names j.transactions book.0 at s book.1.joined
 
   module _ (j k : JournalState N) (n : ℕ) where
     -- ---- undoing
@@ -147,11 +150,12 @@ module _ {S T N : Type 0} {meaning : Meaning S ℕ} {making : Making S}
     Backs result b c = Serves meaning making collections (Action.Back n) result b c
 
     -- Nothing is left to undo.
-    pub fall_beside : FallRow (alone j.accounts) n (alone k.accounts) → length j.pending < 16384 →
+    pub fall_beside : FallRow (alone j.transactions) n (alone k.transactions) →
+        length j.pending < 16384 →
         Charges j k → LeadsBeside meaning making collections whole fits (Backs (Ok false)) j k
     fall_beside row room charges = leads_beside calls makings told shelves
         (ap (λ (v : JournalState N). v.names) charges)
-        (joining.fall_joins shelves laws j.names j.accounts k.accounts n row)
+        (joining.fall_joins shelves laws j.names j.transactions k.transactions n row)
         (λ f kept row.
         let b = book_state whole j f in
         let c = book_state whole k f in
@@ -163,18 +167,19 @@ module _ {S T N : Type 0} {meaning : Meaning S ℕ} {making : Making S}
                 c.state d row v;
             goes = goes_still calls told b c (ap (λ (v : State S). v.now) row.is)
                 (ap (λ (v : JournalState N). v.gathering) charges)
-                (omega (arith, ap (λ (v : BookState S). position v) to));
+                (omega (arith, ap (λ (v : BookState S). lsn v) to));
             notes = ap (λ (v : JournalState N). v.gathering) charges;
           },
         ))
 
     module _ (s : ShelfState T) where
       -- The newest call only reads.
-      pub unread_on : (w : Which) → UnreadRow (alone j.accounts) n (alone k.accounts) →
+      pub unread_on : (w : Which) → UnreadRow (alone j.transactions) n (alone k.transactions) →
           length j.pending < 16384 → Charges j k →
           LeadsOn meaning making collections whole fits (Backs (Ok true)) w j s k s
       unread_on w row room charges =
-          let steps = joining.unread_joins shelves laws j.names j.accounts k.accounts n row in
+          let steps = joining.unread_joins shelves laws j.names j.transactions k.transactions n
+          row in
           leads_on calls makings told shelves {Row = λ u v. UnreadRow u n v}
           (ap (λ (v : JournalState N). v.names) charges)
           (record { row = λ rest is. steps.row _ is; joined = λ rest is. steps.joined _ is })
@@ -190,7 +195,7 @@ module _ {S T N : Type 0} {meaning : Meaning S ℕ} {making : Making S}
                   kept.upheld.holds row v;
               goes = goes_still calls told b c (ap (λ (v : State S). v.now) row.is)
                   (ap (λ (v : JournalState N). v.gathering) charges)
-                  (omega (arith, ap (λ (v : BookState S). position v) to));
+                  (omega (arith, ap (λ (v : BookState S). lsn v) to));
               notes = (
                 row.call,
                 (row.rest, row.newest),
@@ -201,29 +206,31 @@ module _ {S T N : Type 0} {meaning : Meaning S ℕ} {making : Making S}
 
       -- The newest call is undone on its shelf, under its record, and what undid it is noted.
       back_here : (t : ShelfState T) (x : Event) (es : List Effect) (before : T) →
-          HasNewestCall n j.accounts.entries x → (HasNewestRead n j.accounts.entries → ⊥) →
-          BackRow shelf (state_on j.accounts s) n (state_on k.accounts t) →
+          HasNewestCall n j.transactions.entries x → (HasNewestRead n j.transactions.entries → ⊥) →
+          BackRow shelf (state_on j.transactions s) n (state_on k.transactions t) →
           Writes j (Record.Back n) k → k.names ≡ j.names →
-          TakesBack shelf (journal_position j + 1) x es s.now before →
+          TakesBack shelf (journal_lsn j + 1) x es s.now before →
           k.gathering ≡ noted j.gathering es →
           LeadsOn meaning making collections whole fits (Backs (Ok true)) (which_of x.at) j s k t
       back_here t x es before newest written row writes same takes notes =
           let w = which_of x.at in
-          let p = journal_position j + 1 in
-          let steps = joining.back_joins shelves laws j.names j.accounts k.accounts s t n x newest
+          let p = journal_lsn j + 1 in
+          let steps = joining.back_joins shelves laws j.names j.transactions k.transactions s t n x
+          newest
           row in
           let Row : State S → State S → Type 0 = λ u v. BackRow meaning u n v ×
           AreRun meaning p es u.now v.now in
           let ran : (rest : Four (ShelfState T)) →
-          IsJoined meaning making collections whole fits j.names j.accounts (put rest w s) →
-          Row (whole_state whole j.names j.accounts (put rest w s))
-          (whole_state whole j.names k.accounts (put rest w t)) = λ rest is.
+          IsJoined meaning making collections whole fits j.names j.transactions (put rest w s) →
+          Row (whole_state whole j.names j.transactions (put rest w s))
+          (whole_state whole j.names k.transactions (put rest w t)) = λ rest is.
           let f = put rest w s in
-          let u = whole_state whole j.names j.accounts f in
-          let v = whole_state whole j.names k.accounts (put rest w t) in
+          let u = whole_state whole j.names j.transactions f in
+          let v = whole_state whole j.names k.transactions (put rest w t) in
           let there : pick (contents f) w ≡ s.now = contents_pick f w ∙
           ap (λ (x : ShelfState T). x.now) (pick_put rest w s) in
-          let goes = run_joins labels whole fits meaning making collections shelf index holds shelves
+          let goes = run_joins labels whole fits meaning making collections shelf index holds
+          shelves
           j.names x.at p es (contents f) before is.fit takes.inverse.0
           (subst (λ y. AreRun shelf p es y before) (sym there) takes.run) in
           let undoes = (undoes_join shelves j.names (contents f) is.fit x.at x.call x.reply before
@@ -253,21 +260,24 @@ module _ {S T N : Type 0} {meaning : Meaning S ℕ} {making : Making S}
                     unworn,
                     ap length row.newest.is,
                     length-append row.newest.before ((n, Asked row.call) ∷ row.newest.after),
-                  )) both.1 notes (position_after b c (Record.Back n) to);
+                  )) both.1 notes (lsn_after b c (Record.Back n) to);
               notes = (
                 x,
                 newest,
-                inr (not_read n b.state.entries x newest written, (es, takes.inverse, both.1, notes)),
+                inr (
+                  not_read n b.state.entries x newest written,
+                  (es, takes.inverse, both.1, notes),
+                ),
               );
             },
           ))
 
       pub back_on : (t : ShelfState T) (x : Event) (es : List Effect) (before : T) (at : ℕ) →
-          x.at ≡ at → HasNewestCall n j.accounts.entries x →
-          (HasNewestRead n j.accounts.entries → ⊥) →
-          BackRow shelf (state_on j.accounts s) n (state_on k.accounts t) →
+          x.at ≡ at → HasNewestCall n j.transactions.entries x →
+          (HasNewestRead n j.transactions.entries → ⊥) →
+          BackRow shelf (state_on j.transactions s) n (state_on k.transactions t) →
           Writes j (Record.Back n) k → k.names ≡ j.names →
-          TakesBack shelf (journal_position j + 1) x es s.now before →
+          TakesBack shelf (journal_lsn j + 1) x es s.now before →
           k.gathering ≡ noted j.gathering es →
           LeadsOn meaning making collections whole fits (Backs (Ok true)) (which_of at) j s k t
       back_on t x es before at on newest written row writes same takes notes = subst
@@ -284,30 +294,30 @@ module _ {S T N : Type 0} {meaning : Meaning S ℕ} {making : Making S}
       c = book_state whole k g
 
       -- what holds of the parts, as the journal has them
-      joined_here : (a : AccountsState) → k.accounts ≡ a →
+      joined_here : (a : TransactionsState) → k.transactions ≡ a →
           IsJoined meaning making collections whole fits j.names a g →
-          IsJoined meaning making collections whole fits k.names k.accounts g
+          IsJoined meaning making collections whole fits k.names k.transactions g
       joined_here a is joined = subst
-          (λ m. IsJoined meaning making collections whole fits m k.accounts g) (sym same)
+          (λ m. IsJoined meaning making collections whole fits m k.transactions g) (sym same)
           (subst (λ v. IsJoined meaning making collections whole fits j.names v g) (sym is) joined)
 
-      row_here : (Row : State S → Type 0) (a : AccountsState) → k.accounts ≡ a →
+      row_here : (Row : State S → Type 0) (a : TransactionsState) → k.transactions ≡ a →
           Row (whole_state whole j.names a g) → Row c.state
-      row_here Row a is row = subst (λ m. Row (whole_state whole m k.accounts g)) (sym same)
+      row_here Row a is row = subst (λ m. Row (whole_state whole m k.transactions g)) (sym same)
           (subst (λ v. Row (whole_state whole j.names v g)) (sym is) row)
 
-      -- A running transaction commits, where each shelf ran what it put off there.
-      pub commit_leads : (place : ℕ) → let ls = laters_of (own n j.accounts.entries) in
-          IsRunning (alone j.accounts) n → Writes j (Record.Commit n) k → place ≡ k.places →
-          k.accounts ≡ finished n (length ls) j.accounts →
-          k.gathering ≡ noted j.gathering (map (effect_at (journal_position j + 1)) ls) →
+      -- A running transaction commits, where each shelf ran what it deferred there.
+      pub commit_leads : (place : ℕ) → let ls = laters_of (own n j.transactions.entries) in
+          IsRunning (alone j.transactions) n → Writes j (Record.Commit n) k → place ≡ k.places →
+          k.transactions ≡ finished n (length ls) j.transactions →
+          k.gathering ≡ noted j.gathering (map (effect_at (journal_lsn j + 1)) ls) →
           ((w : Which) → Settles shelf (pick f w) n (on_quarter (rank w) ls) (pick g w)) →
           Book k g × IsServed meaning making collections (Action.Commit n) (Ok place)
           (SettlesWhole meaning making n b c) b c
       commit_leads place running writes placed is notes each =
-          let ls = laters_of (own n j.accounts.entries) in
-          let a = finished n (length ls) j.accounts in
-          let done = joining.commit_joins shelves laws j.names j.accounts f g n book.joined
+          let ls = laters_of (own n j.transactions.entries) in
+          let a = finished n (length ls) j.transactions in
+          let done = joining.commit_joins shelves laws j.names j.transactions f g n book.joined
           running.live running.standing each in
           let row = row_here (CommitRow meaning b.state n) a is done.0 in
           let to = appended whole f g writes in
@@ -323,24 +333,24 @@ module _ {S T N : Type 0} {meaning : Meaning S ℕ} {making : Making S}
               answer = (row, to, placed);
               settles = λ d v. commit_settles meaning making laws.rules b.state kept.upheld.holds n
                   c.state d row v;
-              goes = goes_ran calls told b c (map (effect_at (position b + 1)) ls) b.state.wear
+              goes = goes_ran calls told b c (map (effect_at (lsn b + 1)) ls) b.state.wear
                   kept.upheld.reached
-                  (omega (arith, length-map ls (effect_at (position b + 1)), fits_wear))
-                  (are_run meaning (position b + 1) ls b.state.now c.state.now runs
-                  (laters_short j (f, book) n)) notes (position_after b c (Record.Commit n) to);
+                  (omega (arith, length-map ls (effect_at (lsn b + 1)), fits_wear))
+                  (are_run meaning (lsn b + 1) ls b.state.now c.state.now runs
+                  (laters_short j (f, book) n)) notes (lsn_after b c (Record.Commit n) to);
               notes = notes;
             },
           )
 
       -- A transaction of which nothing is left to undo ends, where each shelf gave its needs up.
-      pub ended_leads : Lives j.accounts.live n → HasNoCall n j.accounts.entries →
-          Writes j (Record.Ended n) k → k.accounts ≡ finished n 0 j.accounts →
+      pub ended_leads : Lives j.transactions.live n → HasNoCall n j.transactions.entries →
+          Writes j (Record.Ended n) k → k.transactions ≡ finished n 0 j.transactions →
           k.gathering ≡ j.gathering →
           ((w : Which) → Settles shelf (pick f w) n [] (pick g w)) →
           Book k g × Serves meaning making collections (Action.Ended n) (Ok tt) b c
       ended_leads lives undone writes is still each =
-          let a = finished n 0 j.accounts in
-          let done = joining.ended_joins shelves laws j.names j.accounts f g n book.joined lives
+          let a = finished n 0 j.transactions in
+          let done = joining.ended_joins shelves laws j.names j.transactions f g n book.joined lives
           undone each in
           let row = row_here (EndedRow b.state n) a is done.0 in
           let to = appended whole f g writes in
@@ -354,44 +364,45 @@ module _ {S T N : Type 0} {meaning : Meaning S ℕ} {making : Making S}
               settles = λ d v. ended_settles meaning making laws.rules b.state kept.upheld.holds n
                   c.state d row v;
               goes = goes_still calls told b c (ap (λ (v : State S). v.now) row.left.is) still
-                  (omega (arith, position_after b c (Record.Ended n) to));
+                  (omega (arith, lsn_after b c (Record.Ended n) to));
               notes = still;
             },
           )
 
   module _ (j m k : JournalState N) (n ran : ℕ) (f g : Four (ShelfState T)) (book : Book j f)
-      (accounts : m.accounts ≡ j.accounts) (names : m.names ≡ j.names)
-      (is : k ≡ record m { accounts = finished n ran m.accounts }) where
+      (transactions : m.transactions ≡ j.transactions) (names : m.names ≡ j.names)
+      (is : k ≡ record m { transactions = finished n ran m.transactions }) where
     abbrev ends : (r : Record) → Writes j r m → Writes j r k
-    ends r writes = subst (Writes j r) (sym is) (charged j m r (finished n ran m.accounts) writes)
+    ends r writes = subst (Writes j r) (sym is)
+        (charged j m r (finished n ran m.transactions) writes)
 
     same_names : k.names ≡ j.names
     same_names = ap (λ (v : JournalState N). v.names) is ∙ names
 
-    charges : (count : ℕ) → ran ≡ count → k.accounts ≡ finished n count j.accounts
-    charges count counted = ap (λ (v : JournalState N). v.accounts) is ∙
-        ap (finished n ran) accounts ∙ ap (λ r. finished n r j.accounts) counted
+    charges : (count : ℕ) → ran ≡ count → k.transactions ≡ finished n count j.transactions
+    charges count counted = ap (λ (v : JournalState N). v.transactions) is ∙
+        ap (finished n ran) transactions ∙ ap (λ r. finished n r j.transactions) counted
 
     gathers : (to : GatheringState) → m.gathering ≡ to → k.gathering ≡ to
     gathers to noted = ap (λ (v : JournalState N). v.gathering) is ∙ noted
 
     -- A commit in its parts: its record waits, the shelves are settled, and it is finished.
-    pub commit_book : (place : ℕ) → let ls = laters_of (own n j.accounts.entries) in
-        IsRunning (alone j.accounts) n → Writes j (Record.Commit n) m → place ≡ m.places →
-        m.gathering ≡ noted j.gathering (map (effect_at (journal_position j + 1)) ls) →
+    pub commit_book : (place : ℕ) → let ls = laters_of (own n j.transactions.entries) in
+        IsRunning (alone j.transactions) n → Writes j (Record.Commit n) m → place ≡ m.places →
+        m.gathering ≡ noted j.gathering (map (effect_at (journal_lsn j + 1)) ls) →
         ran ≡ length ls →
         ((w : Which) → Settles shelf (pick f w) n (on_quarter (rank w) ls) (pick g w)) →
         let b = book_state whole j f in let c = book_state whole k g in
         Book k g × IsServed meaning making collections (Action.Commit n) (Ok place)
         (SettlesWhole meaning making n b c) b c
     commit_book place running writes placed notes counted each =
-        let ls = laters_of (own n j.accounts.entries) in
+        let ls = laters_of (own n j.transactions.entries) in
         commit_leads j k n f g book same_names place running (ends (Record.Commit n) writes)
         (placed ∙ sym (ap (λ (v : JournalState N). v.places) is)) (charges (length ls) counted)
-        (gathers (noted j.gathering (map (effect_at (journal_position j + 1)) ls)) notes) each
+        (gathers (noted j.gathering (map (effect_at (journal_lsn j + 1)) ls)) notes) each
 
     -- An end alike.
-    pub ended_book : Lives j.accounts.live n → HasNoCall n j.accounts.entries →
+    pub ended_book : Lives j.transactions.live n → HasNoCall n j.transactions.entries →
         Writes j (Record.Ended n) m → m.gathering ≡ j.gathering → ran ≡ 0 →
         ((w : Which) → Settles shelf (pick f w) n [] (pick g w)) →
         let b = book_state whole j f in let c = book_state whole k g in

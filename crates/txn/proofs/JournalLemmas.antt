@@ -1,21 +1,21 @@
 -- A journal from its parts, before and after a step.
 use Rattle.std.proofs.Common.{◌≡◌, ℕ, ◌+◌, ◌<◌, List, [], ◌∷◌, ◌++◌, length, ◌∙◌, ap}
-use Rattle.record_format.specs.declared.record.Record.{Record}
-use Rattle.record_format.specs.Acts as acts
-use Rattle.blocks.specs.Waits.{Waiting, waiting, freezes}
-use Rattle.blocks.specs.declared.draft.Handed.{Handed}
-use Rattle.machine.specs.Wholes.{AccountsState}
+use Rattle.records.specs.declared.record.Record.{Record}
+use Rattle.records.specs.Acts as acts
+use Rattle.records.specs.Waits.{Waiting, waiting, freezes}
+use Rattle.records.specs.declared.draft.Handed.{Handed}
+use Rattle.steps.specs.Wholes.{TransactionsState}
 use Rattle.images.specs.Gatherings.{GatheringState}
 use Rattle.txn.specs.Books.{next_behind}
 use Rattle.txn.specs.Shelved.{JournalState, Writes}
 use Rattle.txn.specs.Views.{journal_of}
 
 -- the journal with these records waiting, and so many handed over
-abbrev waits : {N : Type 0} → N → AccountsState → List Record → List ℕ → Handed →
+abbrev waits : {N : Type 0} → N → TransactionsState → List Record → List ℕ → Handed →
     (places next : ℕ) → GatheringState → JournalState N
 waits names a pending marks h places next n = record {
   names = names;
-  accounts = a;
+  transactions = a;
   pending = pending;
   freezes = marks;
   end = h.end;
@@ -25,9 +25,9 @@ waits names a pending marks h places next n = record {
   gathering = n;
 }
 
-module _ {N : Type 0} {names : N} {a : AccountsState} (w : Waiting) {places next : ℕ} where
+module _ {N : Type 0} {names : N} {a : TransactionsState} (w : Waiting) {places next : ℕ} where
   -- A record waits behind the others: room was made first, and it was then written.
-  pub written : {m n : GatheringState} {r : Record} {names' : N} {b : AccountsState}
+  pub written : {m n : GatheringState} {r : Record} {names' : N} {b : TransactionsState}
       (reserved w' : Waiting) {places' next' : ℕ} →
       length (waiting w) < 16384 → waiting reserved ≡ waiting w → freezes reserved ≡ freezes w →
       reserved.handed ≡ w.handed →
@@ -53,7 +53,7 @@ module _ {N : Type 0} {names : N} {a : AccountsState} (w : Waiting) {places next
       }
 
   -- Where only room was made, the journal is seen as it was.
-  pub seen : {m n : GatheringState} {b : AccountsState} {j : JournalState N} (w' : Waiting) →
+  pub seen : {m n : GatheringState} {b : TransactionsState} {j : JournalState N} (w' : Waiting) →
       journal_of names a w places next m ≡ j → b ≡ a → n ≡ m → waiting w' ≡ waiting w →
       freezes w' ≡ freezes w → w'.handed ≡ w.handed → journal_of names b w' places next n ≡ j
   seen {m} {n} {b} w' is same noted waits_is marks handed =

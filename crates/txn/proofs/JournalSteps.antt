@@ -11,7 +11,6 @@ use Rattle.calls.specs.Rules.{need_of}
 use Rattle.calls.specs.Transactions.{Event}
 use Rattle.abstract_locks.specs.Holds.{IsClear, IsBusyRefusal}
 use Rattle.undo_log.specs.LeftCalls.{GoesTwice}
-use Rattle.std.specs.Prelude.{OnOk, OnErr, IsOkUnless}
 use Rattle.boosted.specs.Meaning.{Meaning, HasRoom}
 use Rattle.boosted.specs.Laws.{BoostedLaws}
 use Rattle.catalog.specs.declared.four.Four.{Four}
@@ -19,40 +18,40 @@ use Rattle.catalog.specs.Fours.{Which, which_of, put}
 use Rattle.catalog.specs.Making.{Making, MakingLaws}
 use Rattle.catalog.specs.Shelving.{ShelfLaws}
 use Rattle.catalog.specs.Woven.{Label}
-use Rattle.shelf.specs.Shelves.{ShelfState}
-use Rattle.shelf.specs.Looks.{CanTake, TakeRefused, CanTell, MayStarve}
-use Rattle.record_format.specs.declared.record.Record.{Record}
-use Rattle.record_format.specs.Records.{FitsCall, FitsReply}
-use Rattle.record_format.specs.Short.{AreShort}
+use Rattle.steps.specs.Shelves.{ShelfState}
+use Rattle.steps.specs.Looks.{CanTake, TakeRefused, CanTell, MayStarve}
+use Rattle.records.specs.declared.record.Record.{Record}
+use Rattle.records.specs.Records.{FitsCall, FitsReply}
+use Rattle.records.specs.Short.{AreShort}
 use Rattle.records.specs.Told.{Tells}
 use Rattle.records.proofs.Items.{widest_call}
-use Rattle.blocks.specs.Cuts.{CutsOff}
-use Rattle.blocks.specs.declared.block.Block.{Block}
-use Rattle.machine.specs.Machine.{State, IsRunning, IsSettled, BeginRow, CallRow, ReadRow}
-use Rattle.machine.specs.Machine.{LaterRow}
-use Rattle.machine.specs.Machines.{HasRoomFor}
-use Rattle.machine.specs.Sound.{IsSound}
-use Rattle.machine.specs.Wholes.{state_on, contents, whole_state, IsJoined, StepsOn}
-use Rattle.machine.specs.Wholes.{StepsBeside}
-use Rattle.machine.specs.Accounts.{alone}
-use Rattle.machine.proofs.BookLaws.{BookLaws, book_laws}
-use Rattle.machine.proofs.Joining as joining
-use Rattle.machine.proofs.Steps.{begin_settles, call_settles, later_settles}
-use Rattle.machine.proofs.Readings.{read_settles}
-use Rattle.machine.proofs.InvariantRows.{call_room}
+use Rattle.records.specs.Cuts.{CutsOff}
+use Rattle.records.specs.declared.block.Block.{Block}
+use Rattle.steps.specs.Machine.{State, IsRunning, IsSettled, BeginRow, CallRow, ReadRow}
+use Rattle.steps.specs.Machine.{LaterRow}
+use Rattle.steps.specs.Machines.{HasRoomFor}
+use Rattle.steps.specs.Sound.{IsSound}
+use Rattle.steps.specs.Wholes.{state_on, contents, whole_state, IsJoined, StepsOn}
+use Rattle.steps.specs.Wholes.{StepsBeside}
+use Rattle.steps.specs.TransactionTables.{alone}
+use Rattle.steps.proofs.BookLaws.{BookLaws, book_laws}
+use Rattle.steps.proofs.Joining as joining
+use Rattle.steps.proofs.Steps.{begin_settles, call_settles, later_settles}
+use Rattle.steps.proofs.Readings.{read_settles}
+use Rattle.steps.proofs.InvariantRows.{call_room}
 use Rattle.images.specs.Gatherings.{noted, effect_at}
 use Rattle.images.proofs.Running.{are_run}
-use Rattle.txn.specs.declared.steps.Action.{Action}
-use Rattle.txn.specs.declared.steps.Target.{Target}
-use Rattle.txn.specs.Rows.{IsOpen, RunRefused, OpenRefused, IsDenied, CanGet}
+use Rattle.txn.specs.declared.actions.Action.{Action}
+use Rattle.txn.specs.declared.actions.Target.{Target}
+use Rattle.txn.specs.Rows.{IsOpen, OpenRefused, IsDenied, CanGet}
 use Rattle.txn.specs.Rows.{IsMade, record_of, later_record}
 use Rattle.txn.specs.Books.{BookState, standing, IsKept, Takes, CutAnswers, Appends, Moves}
-use Rattle.txn.specs.Books.{position}
-use Rattle.txn.specs.Shelved.{JournalState, book_state, standing_of, journal_position, Writes}
+use Rattle.txn.specs.Books.{lsn}
+use Rattle.txn.specs.Shelved.{JournalState, book_state, standing_of, journal_lsn, Writes}
 use Rattle.txn.specs.Shelved.{Charges, Settles, IsBook, LeadsOn, LeadsBeside, Serves}
 use Rattle.txn.proofs.BookInvariant.{cut_keeps, enter_keeps, call_keeps, read_keeps, later_keeps}
 use Rattle.txn.proofs.CallRecords.{is_record}
-use Rattle.txn.proofs.Goings.{goes_still, goes_ran, position_after}
+use Rattle.txn.proofs.Goings.{goes_still, goes_ran, lsn_after}
 
 module _ {S T N : Type 0} (whole : N → Four T → S) where
   -- What the journal writes, the book appends.
@@ -61,16 +60,16 @@ module _ {S T N : Type 0} (whole : N → Four T → S) where
   appended {j} {k} f g writes = record {
     room = writes.room;
     is = ap (λ (v : JournalState N). record (book_state whole v f) {
-      state = whole_state whole k.names k.accounts g;
+      state = whole_state whole k.names k.transactions g;
       gathering = k.gathering;
     }) writes.is;
   }
 
-  -- Where only the accounts change, the book moves.
+  -- Where only the transactions change, the book moves.
   pub moved : (j k : JournalState N) (f g : Four (ShelfState T)) → Charges j k →
       Moves (book_state whole j f) (book_state whole k g)
   moved j k f g is = ap (λ (v : JournalState N). record (book_state whole v f) {
-    state = whole_state whole k.names k.accounts g;
+    state = whole_state whole k.names k.transactions g;
     gathering = k.gathering;
   }) is
 
@@ -78,8 +77,8 @@ module _ {S T N : Type 0} (whole : N → Four T → S) where
 
 module _ {S T N : Type 0} (whole : N → Four T → S) (j : JournalState N) (f : Four (ShelfState T))
     (n : ℕ) where
-  pub runs_whole : IsRunning (alone j.accounts) n →
-      IsRunning (whole_state whole j.names j.accounts f) n
+  pub runs_whole : IsRunning (alone j.transactions) n →
+      IsRunning (whole_state whole j.names j.transactions f) n
   runs_whole running = record { live = running.live; standing = running.standing }
 
   pub opens_whole : (ask : Type 0) → IsOpen (Unit {0}) (standing_of j) n → ask →
@@ -91,12 +90,6 @@ module _ {S T N : Type 0} (whole : N → Four T → S) (j : JournalState N) (f :
     few = is.few;
     room = is.room;
   }
-
-  pub run_refused : (ask : Type 0) (e : Refusal) → RunRefused (standing_of j) n e →
-      OpenRefused ask (standing (book_state whole j f)) n e
-  run_refused ask Refusal.NoSuchTxn is = is
-  run_refused ask Refusal.Falling is = is
-  run_refused ask e is = absurd is
 
   pub open_refused : (ask : Type 0) (e : Refusal) → OpenRefused (Unit {0}) (standing_of j) n e →
       ask → OpenRefused ask (standing (book_state whole j f)) n e
@@ -149,19 +142,11 @@ module _ {S T N : Type 0} {meaning : Meaning S ℕ} {making : Making S}
     kept = λ rest is. is;
   }
 
-  -- a step that only memory can refuse, and that leaves all as before then
-  pub or_refused : {R : Type 0} {action : Result R Refusal → Action} {w : Which}
-      {j : JournalState N} {s : ShelfState T} (k : JournalState N) (t : ShelfState T)
-      (result : Result R Refusal) → OnOk result (On (Served action result) w j s k t) →
-      OnErr result ((k ≡ j) × (t ≡ s)) → IsOkUnless result Refusal.NoMemory →
-      On (Served action (Err Refusal.NoMemory)) w j s j s → On (Served action result) w j s k t
-  or_refused k t (Ok done) ok same why none = ok
-  or_refused k t (Err e) ok same why none = rw (why, same.0, same.1) none
-
   -- a step whose row the machine has in parts
   pub leads_on : {Row : State S → State S → Type 0} {Told : BookState S → BookState S → Type 0}
       {w : Which} {j k : JournalState N} {s t : ShelfState T} → k.names ≡ j.names →
-      StepsOn meaning making collections whole fits Row w j.names j.accounts s k.accounts t →
+      StepsOn meaning making collections whole fits Row w j.names j.transactions s k.transactions
+      t →
       ((rest : Four (ShelfState T)) → Keeps Row Told (book_state whole j (put rest w s))
       (book_state whole k (put rest w t))) → On Told w j s k t
   leads_on {Row} {Told} {w} {j} {k} {s} {t} same steps keeps =
@@ -169,11 +154,11 @@ module _ {S T N : Type 0} {meaning : Meaning S ℕ} {making : Making S}
       Told (book_state whole j (put rest w s)) (book_state whole k (put rest w t)) =
       λ rest is.
       let c = book_state whole k (put rest w t) in
-      let row = subst (λ m. Row (whole_state whole j.names j.accounts (put rest w s))
-      (whole_state whole m k.accounts (put rest w t))) (sym same) (steps.row rest is.joined) in
+      let row = subst (λ m. Row (whole_state whole j.names j.transactions (put rest w s))
+      (whole_state whole m k.transactions (put rest w t))) (sym same) (steps.row rest is.joined) in
       let done = keeps rest is.kept row in (
         record {
-          joined = subst (λ m. IsJoined meaning making collections whole fits m k.accounts
+          joined = subst (λ m. IsJoined meaning making collections whole fits m k.transactions
               (put rest w t)) (sym same) (steps.joined rest is.joined);
           kept = done.0;
         },
@@ -183,18 +168,18 @@ module _ {S T N : Type 0} {meaning : Meaning S ℕ} {making : Making S}
 
   pub leads_beside : {Row : State S → State S → Type 0} {Told : BookState S → BookState S → Type 0}
       {j k : JournalState N} → k.names ≡ j.names →
-      StepsBeside meaning making collections whole fits Row j.names j.accounts k.accounts →
+      StepsBeside meaning making collections whole fits Row j.names j.transactions k.transactions →
       ((f : Four (ShelfState T)) → Keeps Row Told (book_state whole j f) (book_state whole k f)) →
       Beside Told j k
   leads_beside {Row} {Told} {j} {k} same steps keeps =
       let both : (f : Four (ShelfState T)) → Book j f → Book k f ×
       Told (book_state whole j f) (book_state whole k f) =
       λ f is.
-      let row = subst (λ m. Row (whole_state whole j.names j.accounts f)
-      (whole_state whole m k.accounts f)) (sym same) (steps.row f is.joined) in
+      let row = subst (λ m. Row (whole_state whole j.names j.transactions f)
+      (whole_state whole m k.transactions f)) (sym same) (steps.row f is.joined) in
       let done = keeps f is.kept row in (
         record {
-          joined = subst (λ m. IsJoined meaning making collections whole fits m k.accounts f)
+          joined = subst (λ m. IsJoined meaning making collections whole fits m k.transactions f)
               (sym same) (steps.joined f is.joined);
           kept = done.0;
         },
@@ -218,11 +203,11 @@ module _ {S T N : Type 0} {meaning : Meaning S ℕ} {making : Making S}
         told = λ f is. (
           answer f,
           λ d v. subst (λ (u : JournalState N). IsSettled meaning
-              (whole_state whole u.names u.accounts f) d) (sym same) v,
+              (whole_state whole u.names u.transactions f) d) (sym same) v,
         );
         kept = λ f is. record {
           joined = subst (λ (u : JournalState N). IsJoined meaning making collections whole fits
-              u.names u.accounts f) (sym same) is.joined;
+              u.names u.transactions f) (sym same) is.joined;
           kept = cut_keeps meaning making (λ form s. AreShort form (collections s)) laws
               (book_state whole j f) is.kept sends full result (book_state whole k f) (answer f);
         };
@@ -231,11 +216,12 @@ module _ {S T N : Type 0} {meaning : Meaning S ℕ} {making : Making S}
   -- ---- a transaction begins
 
   pub enter_beside : (j k : JournalState N) (n : ℕ) →
-      BeginRow (alone j.accounts) n (alone k.accounts) → j.accounts.wear < 2 ^ 61 →
+      BeginRow (alone j.transactions) n (alone k.transactions) → j.transactions.wear < 2 ^ 61 →
       Writes j (Record.Begin n) k → k.names ≡ j.names → k.gathering ≡ j.gathering →
       Beside (Served (Action.Enter n) (Ok tt)) j k
   enter_beside j k n row unworn writes same still =
-      leads_beside same (joining.begin_joins shelves laws j.names j.accounts k.accounts n row)
+      leads_beside same (joining.begin_joins shelves laws j.names j.transactions k.transactions n
+      row)
       (λ f kept row.
       let b = book_state whole j f in
       let c = book_state whole k f in
@@ -247,7 +233,7 @@ module _ {S T N : Type 0} {meaning : Meaning S ℕ} {making : Making S}
           settles = λ d v. begin_settles meaning making laws.rules b.state kept.upheld.holds n
               c.state d row v;
           goes = goes_still calls told b c (ap (λ (v : State S). v.now) row.is) still
-              (omega (arith, position_after b c (Record.Begin n) to));
+              (omega (arith, lsn_after b c (Record.Begin n) to));
           notes = still;
         },
       ))
@@ -266,29 +252,32 @@ module _ {S T N : Type 0} {meaning : Meaning S ℕ} {making : Making S}
     Opens = IsOpen (Unit {0}) (standing_of j) n
 
     abbrev CanTakeHere : When → Type 0
-    CanTakeHere when = CanTake shelf when j.accounts.format s.now at call
+    CanTakeHere when = CanTake shelf when j.transactions.format s.now at call
 
     can_take : (when : When) (rest : Four (ShelfState T)) → Book j (put rest (which_of at) s) →
-        CanTakeHere when → CanTake meaning when j.accounts.format
+        CanTakeHere when → CanTake meaning when j.transactions.format
         (whole j.names (contents (put rest (which_of at) s))) at call
-    can_take When.Now rest is asks = joining.asked_join shelves laws j.names j.accounts rest at s
-        is.joined j.accounts.format call asks
-    can_take When.AtCommit rest is defers = joining.deferred_join shelves laws j.names j.accounts
+    can_take When.Now rest is asks =
+        joining.asked_join shelves laws j.names j.transactions rest at s
+        is.joined j.transactions.format call asks
+    can_take When.AtCommit rest is defers =
+        joining.deferred_join shelves laws j.names j.transactions
         rest at s is.joined call defers
 
     take_refused : (when : When) (rest : Four (ShelfState T)) →
         Book j (put rest (which_of at) s) → (e : Refusal) →
-        TakeRefused shelf when j.accounts.format s.now at call e →
-        TakeRefused meaning when j.accounts.format
+        TakeRefused shelf when j.transactions.format s.now at call e →
+        TakeRefused meaning when j.transactions.format
         (whole j.names (contents (put rest (which_of at) s))) at call e
-    take_refused When.Now rest is e why = joining.refused_join shelves laws j.names j.accounts rest
-        at s is.joined j.accounts.format call e why
+    take_refused When.Now rest is e why =
+        joining.refused_join shelves laws j.names j.transactions rest
+        at s is.joined j.transactions.format call e why
     take_refused When.AtCommit rest is e why = joining.defer_refused_join shelves laws j.names
-        j.accounts rest at s is.joined call e why
+        j.transactions rest at s is.joined call e why
 
     -- It is refused as its shelf shows,
-    pub misplaced : (when : When) (e : Refusal) → IsRunning (alone j.accounts) n →
-        TakeRefused shelf when j.accounts.format s.now at call e → Refuses when e
+    pub misplaced : (when : When) (e : Refusal) → IsRunning (alone j.transactions) n →
+        TakeRefused shelf when j.transactions.format s.now at call e → Refuses when e
     misplaced when e running why = refused_on (which_of at) j s
         (λ rest is. (
           refl,
@@ -336,31 +325,31 @@ module _ {S T N : Type 0} {meaning : Meaning S ℕ} {making : Making S}
 
       -- The call leaves nothing that is going already.
       abbrev IsOnce : When → Type 0
-      IsOnce when = when ≡ When.Now → GoesTwice j.accounts.entries n event → ⊥
+      IsOnce when = when ≡ When.Now → GoesTwice j.transactions.entries n event → ⊥
 
       answered : shelf.answers s.now at call reply → (rest : Four (ShelfState T)) →
           Book j (put rest (which_of at) s) →
           meaning.answers (whole j.names (contents (put rest (which_of at) s))) at call reply
-      answered answers rest is = joining.answered_join shelves laws j.names j.accounts rest at s
+      answered answers rest is = joining.answered_join shelves laws j.names j.transactions rest at s
           is.joined call reply answers
 
       busy_here : (rest : Four (ShelfState T)) → Book j (put rest (which_of at) s) → (r : Reply)
           (e : Refusal) → IsBusyRefusal s.holds n at (need_of call r) e → IsBusyRefusal
-          (whole_state whole j.names j.accounts (put rest (which_of at) s)).holds n at
+          (whole_state whole j.names j.transactions (put rest (which_of at) s)).holds n at
           (need_of call r) e
-      busy_here rest is r e busy = joining.busy_join shelves laws j.names j.accounts rest at s
+      busy_here rest is r e busy = joining.busy_join shelves laws j.names j.transactions rest at s
           is.joined n (need_of call r) e busy
 
       clear_here : (rest : Four (ShelfState T)) → Book j (put rest (which_of at) s) → (r : Reply) →
           IsClear s.holds n at (need_of call r) → IsClear
-          (whole_state whole j.names j.accounts (put rest (which_of at) s)).holds n at
+          (whole_state whole j.names j.transactions (put rest (which_of at) s)).holds n at
           (need_of call r)
-      clear_here rest is r clear = joining.clear_join shelves laws j.names j.accounts rest at s
+      clear_here rest is r clear = joining.clear_join shelves laws j.names j.transactions rest at s
           is.joined n (need_of call r) clear
 
       -- as it would leave what is going already,
       pub twice : Opens → CanTakeHere When.Now → shelf.answers s.now at call reply →
-          GoesTwice j.accounts.entries n event → Refuses When.Now Refusal.AlreadyGoing
+          GoesTwice j.transactions.entries n event → Refuses When.Now Refusal.AlreadyGoing
       twice opened takes answers goes = in_vain When.Now Refusal.AlreadyGoing opened takes
           (λ rest is. (reply, answered answers rest is, goes))
 
@@ -405,11 +394,11 @@ module _ {S T N : Type 0} {meaning : Meaning S ℕ} {making : Making S}
           CanTell shelf when s.now at call reply → IsOnce when →
           IsClear s.holds n at (need_of call reply) →
           (rest : Four (ShelfState T)) → Book j (put rest (which_of at) s) →
-          CanGet shelf when (state_on j.accounts s) n event
+          CanGet shelf when (state_on j.transactions s) n event
       can_get When.Now opened takes answers once clear rest is = record {
         running = record { live = opened.running.live; standing = opened.running.standing };
         asked = takes;
-        told = joining.told_join shelves laws j.names j.accounts rest at s is.joined call reply
+        told = joining.told_join shelves laws j.names j.transactions rest at s is.joined call reply
             answers;
         few = opened.few;
         answered = answers;
@@ -419,7 +408,7 @@ module _ {S T N : Type 0} {meaning : Meaning S ℕ} {making : Making S}
       can_get When.AtCommit opened takes tells once clear rest is = (
         record {
           running = record { live = opened.running.live; standing = opened.running.standing };
-          put_off = takes;
+          deferred = takes;
           few = opened.few;
           ready = tells.1;
           clear = subst (λ r. IsClear s.holds n at (need_of call r)) tells.0 clear;
@@ -429,27 +418,29 @@ module _ {S T N : Type 0} {meaning : Meaning S ℕ} {making : Making S}
 
     -- There is room for one call more.
     pub room_on : Opens → (rest : Four (ShelfState T)) → Book j (put rest (which_of at) s) →
-        HasRoomFor (state_on j.accounts s) 1
+        HasRoomFor (state_on j.transactions s) 1
     room_on opened rest is = (call_room meaning making (λ form s. AreShort form (collections s))
         laws
-        (whole_state whole j.names j.accounts (put rest (which_of at) s)) is.kept.upheld n at call
+        (whole_state whole j.names j.transactions (put rest (which_of at) s)) is.kept.upheld n
+        at call
         (runs_whole whole j (put rest (which_of at) s) n opened.running) opened.few opened.unworn).0
 
     pub reach_on : (rest : Four (ShelfState T)) → Book j (put rest (which_of at) s) →
         HasRoom shelf s.now
-    reach_on rest is = joining.reach_join shelves laws j.names j.accounts rest at s is.joined
+    reach_on rest is = joining.reach_join shelves laws j.names j.transactions rest at s is.joined
 
     -- A call is made.
     pub call_on : (reply : Reply) (k : JournalState N) (t : ShelfState T) →
         let e : Event = record { at = at; call = call; reply = reply } in
         Opens → reads call reply ≡ false → (FitsCall call) → (FitsReply reply) → at < 256 →
-        CallRow shelf (state_on j.accounts s) n e (state_on k.accounts t) →
+        CallRow shelf (state_on j.transactions s) n e (state_on k.transactions t) →
         Writes j (record_of n e) k → k.names ≡ j.names →
-        k.gathering ≡ noted j.gathering (effect_at (journal_position j + 1) e ∷ []) →
+        k.gathering ≡ noted j.gathering (effect_at (journal_lsn j + 1) e ∷ []) →
         Asked When.Now (Ok reply) k t
     call_on reply k t opened written fit fits_reply few row writes same notes =
         let e : Event = record { at = at; call = call; reply = reply } in
-        leads_on same (joining.call_joins shelves laws j.names j.accounts k.accounts s t n e row)
+        leads_on same (joining.call_joins shelves laws j.names j.transactions k.transactions s t n e
+        row)
         (λ rest kept row.
         let f = put rest (which_of at) s in
         let b = book_state whole j f in
@@ -469,14 +460,14 @@ module _ {S T N : Type 0} {meaning : Meaning S ℕ} {making : Making S}
             );
             settles = λ d v. call_settles meaning making laws.rules b.state kept.upheld.holds n
                 e c.state d row v;
-            goes = goes_ran calls told b c (effect_at (position b + 1) e ∷ []) b.state.wear
+            goes = goes_ran calls told b c (effect_at (lsn b + 1) e ∷ []) b.state.wear
                 kept.upheld.reached (omega arith)
-                (are_run meaning (position b + 1) (e ∷ []) b.state.now c.state.now
+                (are_run meaning (lsn b + 1) (e ∷ []) b.state.now c.state.now
                 (c.state.now, (row.can.answered, ap (λ (v : State S). v.now) row.is), refl)
                 (widest_call b.state.format call row.can.asked.2, tt)) notes
-                (position_after b c (record_of n e) to);
+                (lsn_after b c (record_of n e) to);
             notes = notes ∙ sym (ap (λ r. cond r b.gathering (noted b.gathering
-                (effect_at (position b + 1) e ∷ []))) written);
+                (effect_at (lsn b + 1) e ∷ []))) written);
           },
         ))
 
@@ -484,12 +475,12 @@ module _ {S T N : Type 0} {meaning : Meaning S ℕ} {making : Making S}
     pub read_on : (reply : Reply) (k : JournalState N) (t : ShelfState T) →
         let e : Event = record { at = at; call = call; reply = reply } in
         Opens → reads call reply ≡ true →
-        ReadRow shelf (state_on j.accounts s) n e (state_on k.accounts t) → Charges j k →
+        ReadRow shelf (state_on j.transactions s) n e (state_on k.transactions t) → Charges j k →
         Asked When.Now (Ok reply) k t
     read_on reply k t opened only_reads row charges =
         let e : Event = record { at = at; call = call; reply = reply } in
         leads_on (ap (λ (v : JournalState N). v.names) charges)
-        (joining.read_joins shelves laws j.names j.accounts k.accounts s t n e row)
+        (joining.read_joins shelves laws j.names j.transactions k.transactions s t n e row)
         (λ rest kept row.
         let f = put rest (which_of at) s in
         let b = book_state whole j f in
@@ -507,19 +498,21 @@ module _ {S T N : Type 0} {meaning : Meaning S ℕ} {making : Making S}
                 kept.upheld.holds row v;
             goes = goes_still calls told b c (ap (λ (v : State S). v.now) row.is)
                 (ap (λ (v : JournalState N). v.gathering) charges)
-                (omega (arith, ap (λ (v : BookState S). position v) to));
-            notes = ap (λ (v : JournalState N). v.gathering) charges ∙ sym (ap (λ r. cond r b.gathering
-                (noted b.gathering (effect_at (position b + 1) e ∷ []))) only_reads);
+                (omega (arith, ap (λ (v : BookState S). lsn v) to));
+            notes = ap (λ (v : JournalState N). v.gathering) charges ∙
+                sym (ap (λ r. cond r b.gathering
+                (noted b.gathering (effect_at (lsn b + 1) e ∷ []))) only_reads);
           },
         ))
 
     -- A call is deferred.
     pub later_on : (k : JournalState N) (t : ShelfState T) → Opens → at < 256 →
-        LaterRow shelf (state_on j.accounts s) n at call (state_on k.accounts t) →
+        LaterRow shelf (state_on j.transactions s) n at call (state_on k.transactions t) →
         Writes j (later_record n at call) k → k.names ≡ j.names → k.gathering ≡ j.gathering →
         Asked When.AtCommit (Ok Reply.Done) k t
     later_on k t opened few row writes same still =
-        leads_on same (joining.later_joins shelves laws j.names j.accounts k.accounts s t n at call
+        leads_on same (joining.later_joins shelves laws j.names j.transactions k.transactions s t n
+        at call
         row)
         (λ rest kept row.
         let f = put rest (which_of at) s in
@@ -533,7 +526,7 @@ module _ {S T N : Type 0} {meaning : Meaning S ℕ} {making : Making S}
             settles = λ d v. later_settles meaning making laws.rules b.state kept.upheld.holds n
                 at call c.state d row v;
             goes = goes_still calls told b c (ap (λ (v : State S). v.now) row.is) still
-                (omega (arith, position_after b c (later_record n at call) to));
+                (omega (arith, lsn_after b c (later_record n at call) to));
             notes = still;
           },
         ))

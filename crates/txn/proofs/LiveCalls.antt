@@ -12,17 +12,17 @@ use Rattle.calls.specs.declared.reply.Reply.{Reply}
 use Rattle.calls.specs.declared.refusal.Refusal.{Refusal}
 use Rattle.calls.specs.declared.when.When.{When}
 use Rattle.calls.specs.Reads.{reads}
-use Rattle.calls.specs.Transactions.{Event, Entry, Asked, PutOff, own, others, calls_of}
+use Rattle.calls.specs.Transactions.{Event, Entry, Asked, Deferred, own, others, calls_of}
 use Rattle.boosted.specs.Meaning.{Meaning}
 use Rattle.catalog.specs.Making.{Making}
 use Rattle.undo_log.specs.Entries.{IsNewestCall}
-use Rattle.machine.specs.Machine.{State}
-use Rattle.machine.proofs.JoinedEntries.{own_append, calls_append}
-use Rattle.machine.proofs.RecordRuns.{own_of_others, own_of_its_others, own_of_rest}
-use Rattle.machine.proofs.Theory.Lists.{not_same}
-use Rattle.txn.specs.declared.steps.Action.{Action}
-use Rattle.txn.specs.declared.steps.BookStep.{BookStep}
-use Rattle.txn.specs.declared.steps.Target.{Target}
+use Rattle.steps.specs.Machine.{State}
+use Rattle.steps.proofs.JoinedEntries.{own_append, calls_append}
+use Rattle.steps.proofs.RecordRuns.{own_of_others, own_of_its_others, own_of_rest}
+use Rattle.steps.proofs.Theory.Lists.{not_same}
+use Rattle.txn.specs.declared.actions.Action.{Action}
+use Rattle.txn.specs.declared.actions.BookStep.{BookStep}
+use Rattle.txn.specs.declared.actions.Target.{Target}
 use Rattle.txn.specs.Rows.{Standing, IsMade, IsUndone, IsDeferred, AskAnswers, NotFound, opening}
 use Rattle.txn.specs.Histories.{LiveCalls, with_calls, shows, shown_by, no_calls, Adds, Shifts, Row}
 use Rattle.txn.specs.Histories.{IsLegal}
@@ -70,15 +70,15 @@ module _ (live : LiveCalls) (es : List (ℕ × Entry)) (shown : AreShown live es
       calls_append (own n es) (Asked e ∷ []))))
       (λ k other. ap calls_of (pushed_other n k (Asked e) es other))
 
-  -- one that is put off
-  put_off_shown : (at : ℕ) (call : Call) → AreShown live (es ++ (n, PutOff at call) ∷ [])
-  put_off_shown at call k =
+  -- one that is deferred
+  deferred_shown : (at : ℕ) (call : Call) → AreShown live (es ++ (n, Deferred at call) ∷ [])
+  deferred_shown at call k =
       ⊎_elim
-      (λ (same : k ≡ n). subst (λ j. live j ≡ newest_first j (es ++ (n, PutOff at call) ∷ []))
-      (sym same) (shown n ∙ ap reverse (sym (ap calls_of (pushed_own n (PutOff at call) es) ∙
-      calls_append (own n es) (PutOff at call ∷ []) ∙ append-nil (calls_of (own n es))))))
+      (λ (same : k ≡ n). subst (λ j. live j ≡ newest_first j (es ++ (n, Deferred at call) ∷ []))
+      (sym same) (shown n ∙ ap reverse (sym (ap calls_of (pushed_own n (Deferred at call) es) ∙
+      calls_append (own n es) (Deferred at call ∷ []) ∙ append-nil (calls_of (own n es))))))
       (λ (other : k ≡ n → ⊥). shown k ∙
-      ap (λ l. reverse (calls_of l)) (sym (pushed_other n k (PutOff at call) es other)))
+      ap (λ l. reverse (calls_of l)) (sym (pushed_other n k (Deferred at call) es other)))
       (cases_eq k n)
 
   -- the number's entries go
@@ -168,7 +168,7 @@ module _ {S : Type 0} (meaning : Meaning S ℕ) (making : Making S) (live : Live
   deferred : (n : ℕ) (e : Event) → IsDeferred meaning making (λ v. v) Adds Shifts b n e c →
       Shown live
   deferred n e row = subst (AreShown live) (sym (ap (λ (v : State S). v.entries) row.0.is))
-      (put_off_shown live b.state.entries shown n e.at e.call)
+      (deferred_shown live b.state.entries shown n e.at e.call)
 
   asked : (n p : ℕ) (call : Call) (when : When) (a : Result Reply Refusal) →
       AskAnswers meaning making (λ v. v) Adds Shifts b n p call when a c →

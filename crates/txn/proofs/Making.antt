@@ -14,22 +14,22 @@ use Rattle.catalog.specs.Making as naming
 use Rattle.catalog.specs.Making.{Making, MakingLaws}
 use Rattle.catalog.specs.Shelving.{MakesOn, ShelfLaws}
 use Rattle.catalog.specs.Woven.{Label, names_in}
-use Rattle.shelf.specs.Shelves.{ShelfState}
-use Rattle.record_format.specs.declared.record.Record.{Record}
-use Rattle.record_format.specs.Short.{AreShort}
+use Rattle.steps.specs.Shelves.{ShelfState}
+use Rattle.records.specs.declared.record.Record.{Record}
+use Rattle.records.specs.Short.{AreShort}
 use Rattle.records.specs.Told.{Tells}
-use Rattle.machine.specs.Machine.{State, MakeRow}
-use Rattle.machine.specs.Wholes.{contents, whole_state, IsJoined}
-use Rattle.machine.proofs.BookLaws.{BookLaws, book_laws}
-use Rattle.machine.proofs.Steps.{make_settles}
-use Rattle.machine.proofs.Joining.{make_joins}
-use Rattle.txn.specs.declared.steps.Action.{Action}
+use Rattle.steps.specs.Machine.{State, MakeRow}
+use Rattle.steps.specs.Wholes.{contents, whole_state, IsJoined}
+use Rattle.steps.proofs.BookLaws.{BookLaws, book_laws}
+use Rattle.steps.proofs.Steps.{make_settles}
+use Rattle.steps.proofs.Joining.{make_joins}
+use Rattle.txn.specs.declared.actions.Action.{Action}
 use Rattle.txn.specs.Books.{BookState, standing}
 use Rattle.txn.specs.Shelved.{JournalState, book_state, Writes, IsBook, LeadsOn, IsServed}
 use Rattle.txn.specs.Shelved.{SettlesMade}
 use Rattle.txn.proofs.BookInvariant.{make_keeps}
 use Rattle.txn.proofs.BookLemmas.{make_refused}
-use Rattle.txn.proofs.Goings.{goes_made, position_after}
+use Rattle.txn.proofs.Goings.{goes_made, lsn_after}
 use Rattle.txn.proofs.JournalSteps.{appended}
 
 pub pick_contents : {T : Type 0} (rest : Four (ShelfState T)) (w : Which) (s : ShelfState T) →
@@ -87,7 +87,7 @@ module _ {S T N : Type 0} {meaning : Meaning S ℕ} {making : Making S}
   pub made_on : (k : JournalState N) (t : ShelfState T) (place : ℕ) → IsName name →
       length (labels j.names) < max_collections →
       MakesOn labels whole fits making j.names s.now name kind k.names t.now →
-      t.holds ≡ s.holds → k.accounts ≡ j.accounts → Writes j (Record.Make kind name) k →
+      t.holds ≡ s.holds → k.transactions ≡ j.transactions → Writes j (Record.Make kind name) k →
       k.gathering ≡ j.gathering → place ≡ k.places → On (Ok place) k t
   made_on k t place good few made held same writes still count = record {
     told = λ rest is. (both rest is).1;
@@ -96,11 +96,13 @@ module _ {S T N : Type 0} {meaning : Meaning S ℕ} {making : Making S}
     where
       both : (rest : Four (ShelfState T)) → Book j (put rest turn s) →
           Book k (put rest turn t) ×
-          Made (Ok place) (book_state whole j (put rest turn s)) (book_state whole k (put rest turn t))
+          Made (Ok place) (book_state whole j (put rest turn s))
+          (book_state whole k (put rest turn t))
       both rest is =
           let b = book_state whole j (put rest turn s) in
           let c = book_state whole k (put rest turn t) in
-          let joins = make_joins shelves laws j.names k.names j.accounts s t name kind good few made
+          let joins = make_joins shelves laws j.names k.names j.transactions s t name kind good few
+          made
           held rest is.joined in
           let row = subst (λ a. MakeRow making b.state name kind (whole_state whole k.names a
           (put rest turn t))) (sym same) joins.0 in
@@ -118,7 +120,7 @@ module _ {S T N : Type 0} {meaning : Meaning S ℕ} {making : Making S}
               settles = λ d v. make_settles meaning making laws.rules b.state is.kept.upheld.holds
                   name kind c.state d row v;
               goes = goes_made calls told b c name kind now still
-                  (position_after b c (Record.Make kind name) to);
+                  (lsn_after b c (Record.Make kind name) to);
               notes = still;
             },
           )

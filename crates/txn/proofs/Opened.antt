@@ -11,10 +11,10 @@ use Rattle.catalog.specs.Making.{Making, MakingLaws}
 use Rattle.catalog.specs.Shelving.{ShelfLaws}
 use Rattle.catalog.specs.Woven.{Label}
 use Rattle.std.proofs.Common.{List, []}
-use Rattle.record_format.specs.Short.{AreShort}
+use Rattle.records.specs.Short.{AreShort}
 use Rattle.records.specs.Told.{Tells}
-use Rattle.machine.proofs.BookLaws.{BookLaws, book_laws}
-use Rattle.machine.proofs.Joining.{opened_joins}
+use Rattle.steps.proofs.BookLaws.{BookLaws, book_laws}
+use Rattle.steps.proofs.Joining.{opened_joins}
 use Rattle.txn.specs.Parts.{at_rest}
 use Rattle.txn.specs.Shelved.{opened_journal, IsBook}
 use Rattle.txn.proofs.BookInvariant.{opened_kept}
@@ -36,7 +36,8 @@ pub opened_book : {S T N : Type 0} {meaning : Meaning S ℕ} {making : Making S}
     AreShort format (collections (whole names f)) →
     length (making.names (whole names f)) ≤ max_collections →
     IsBook meaning making collections whole fits (opened_journal format names next wear) (at_rest f)
-opened_book {meaning} {making} {collections} {whole} calls makings told shelves format names f next wear fit
+opened_book {meaning} {making} {collections} {whole} calls makings told shelves format names f next
+    wear fit
     reached worn above spells few =
     let laws : BookLaws meaning making (λ form s. AreShort form (collections s)) =
     book_laws calls makings told in

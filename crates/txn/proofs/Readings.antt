@@ -8,13 +8,13 @@ use Rattle.calls.specs.declared.when.When.{When}
 use Rattle.calls.specs.Reads.{reads, is_journalled, without_reads}
 use Rattle.calls.specs.Transactions.{Event, Entry, Asked, Whole, Made, Act}
 use Rattle.calls.specs.Transactions.{Begins, Asks, Commits, Creates, committed_after, committed}
-use Rattle.record_format.specs.declared.record.Record.{Record}
-use Rattle.record_format.specs.Acts.{acts_of_record, acts_of}
-use Rattle.machine.specs.Machine.{journalled_entries}
-use Rattle.machine.proofs.Journalled.{own_journalled, others_journalled, push_entry}
-use Rattle.txn.specs.declared.steps.Action.{Action}
-use Rattle.txn.specs.declared.steps.BookStep.{BookStep}
-use Rattle.txn.specs.declared.steps.Target.{Target}
+use Rattle.records.specs.declared.record.Record.{Record}
+use Rattle.records.specs.Acts.{acts_of_record, acts_of}
+use Rattle.steps.specs.Machine.{journalled_entries}
+use Rattle.steps.proofs.Journalled.{own_journalled, others_journalled, push_entry}
+use Rattle.txn.specs.declared.actions.Action.{Action}
+use Rattle.txn.specs.declared.actions.BookStep.{BookStep}
+use Rattle.txn.specs.declared.actions.Target.{Target}
 use Rattle.txn.specs.Rows.{record_of}
 use Rattle.txn.specs.Histories.{entry_of, acts_of_action, committed_by, LiveCalls, shows, no_calls}
 use Rattle.txn.specs.Histories.{asked_records, back_records, records_of_action, records_after}

@@ -12,16 +12,16 @@ use Rattle.calls.specs.Transactions.{Leads, Event, Entry}
 use Rattle.undo_log.specs.Entries.{IsNewestCall}
 use Rattle.boosted.specs.Meaning.{Meaning}
 use Rattle.catalog.specs.Making.{Making}
-use Rattle.record_format.specs.declared.record.Record.{Record}
-use Rattle.record_format.specs.Acts.{places}
-use Rattle.machine.specs.Machine.{Steps, journalled}
-use Rattle.machine.proofs.Journalled.{GoesUnheard, fall_unheard, read_unheard, unread_unheard}
-use Rattle.machine.proofs.Journalled.{make_told, begin_told, call_told, later_told, commit_told}
-use Rattle.machine.proofs.Journalled.{back_told, ended_told}
-use Rattle.machine.proofs.Sizes.{append_length, pushed_length}
-use Rattle.blocks.specs.declared.block.Block.{Block}
-use Rattle.txn.specs.declared.steps.Action.{Action}
-use Rattle.txn.specs.declared.steps.Target.{Target}
+use Rattle.records.specs.declared.record.Record.{Record}
+use Rattle.records.specs.Acts.{places}
+use Rattle.steps.specs.Machine.{Steps, journalled}
+use Rattle.steps.proofs.Journalled.{GoesUnheard, fall_unheard, read_unheard, unread_unheard}
+use Rattle.steps.proofs.Journalled.{make_told, begin_told, call_told, later_told, commit_told}
+use Rattle.steps.proofs.Journalled.{back_told, ended_told}
+use Rattle.steps.proofs.Sizes.{append_length, pushed_length}
+use Rattle.records.specs.declared.block.Block.{Block}
+use Rattle.txn.specs.declared.actions.Action.{Action}
+use Rattle.txn.specs.declared.actions.Target.{Target}
 use Rattle.txn.specs.Rows.{IsMade, IsUndone, AskAnswers, NotFound, record_of, later_record}
 use Rattle.txn.specs.Books.{BookState, standing, Appends, Moves, Takes, CutAnswers}
 use Rattle.txn.specs.Histories.{Adds, Shifts, CutRow, Row, LiveCalls, unless_read, back_records}

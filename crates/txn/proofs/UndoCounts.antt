@@ -4,13 +4,13 @@ use Rattle.std.proofs.Common.{[], ◌∷◌, length, map, refl, ◌∙◌, ap, a
 use Rattle.std.specs.List.{AllByRecursion, filter}
 use Rattle.std.proofs.lemmas.Bool.{le-leb, lt-leb, leb-true, leb-false, eq-eqb}
 use Rattle.calls.specs.Reads.{reads}
-use Rattle.calls.specs.Transactions.{Entry, Asked, PutOff, own, calls_of}
+use Rattle.calls.specs.Transactions.{Entry, Asked, Deferred, own, calls_of}
 use Rattle.undo_log.specs.Entries.{stamped_entry}
 use Rattle.undo_log.specs.Logs.{Statuses, Lives, IsNextLive}
 use Rattle.undo_log.specs.declared.logged.Stamped.{Stamped}
-use Rattle.machine.specs.Machine.{journalled_entries}
-use Rattle.machine.proofs.Theory.Lists.{not_same}
-use Rattle.record_format.specs.Records.{IsNumber}
+use Rattle.steps.specs.Machine.{journalled_entries}
+use Rattle.steps.proofs.Theory.Lists.{not_same}
+use Rattle.records.specs.Records.{IsNumber}
 use Rattle.txn.specs.Undoings.{is_journalled_call, journalled_calls}
 
 -- how many of the entries are calls that a journal tells of
@@ -54,7 +54,8 @@ told_next live last m next ((n, x) ∷ es) owned =
     choose : {b c : Bool} → b ≡ c → cond b (entry_told x) 0 ≡ cond c (entry_told x) 0
     choose same = ap (λ b. cond b (entry_told x) 0) same
 
-    place : told_upto m es ≡ told_upto last es + told (own m es) → (before upto : Bool) → leb n last ≡ before → leb n m ≡ upto →
+    place : told_upto m es ≡ told_upto last es + told (own m es) → (before upto : Bool) →
+        leb n last ≡ before → leb n m ≡ upto →
         told_upto m ((n, x) ∷ es) ≡ told_upto last ((n, x) ∷ es) + told (own m ((n, x) ∷ es))
     place rest true true before upto =
         let is = own_cons m n x es false (not_same n m
@@ -110,9 +111,9 @@ pub told_last : (live : Statuses) (last : ℕ) → ((n : ℕ) → Lives live n �
     (es : List (ℕ × Entry)) → AllByRecursion (λ e. Lives live e.0) es →
     told_upto last es ≡ length (journalled_calls es)
 told_last live last none [] owned = refl
-told_last live last none ((n, PutOff at c) ∷ es) owned = omega (
+told_last live last none ((n, Deferred at c) ∷ es) owned = omega (
   arith,
-  ap (λ b. cond b (entry_told (PutOff at c)) 0) (le-leb n last (none n owned.0)),
+  ap (λ b. cond b (entry_told (Deferred at c)) 0) (le-leb n last (none n owned.0)),
   told_last live last none es owned.1,
 )
 told_last live last none ((n, Asked e) ∷ es) owned =
@@ -120,7 +121,8 @@ told_last live last none ((n, Asked e) ∷ es) owned =
     (le-leb n last (none n owned.0)) ∙
     either (told_last live last none es owned.1) (not (reads e.call e.reply))
   where
-    either : told_upto last es ≡ length (journalled_calls es) → (b : Bool) → cond b 1 0 + told_upto last es ≡
+    either : told_upto last es ≡ length (journalled_calls es) → (b : Bool) →
+        cond b 1 0 + told_upto last es ≡
         length (calls_of (map (λ (x : ℕ × Entry). x.1)
         (cond b ((n, Asked e) ∷ journalled_entries es) (journalled_entries es))))
     either rest true = omega (arith, rest)
@@ -139,7 +141,7 @@ told_few last ((n, x) ∷ es) =
 
 pub calls_few : (es : List (ℕ × Entry)) → length (journalled_calls es) ≤ length es
 calls_few [] = omega arith
-calls_few ((n, PutOff at c) ∷ es) = omega (arith, calls_few es)
+calls_few ((n, Deferred at c) ∷ es) = omega (arith, calls_few es)
 calls_few ((n, Asked e) ∷ es) =
     omega (arith, either (calls_few es) (not (reads e.call e.reply)))
   where

@@ -6,7 +6,7 @@ use Rattle.calls.specs.declared.call.Call.{Call}
 use Rattle.calls.specs.declared.reply.Reply.{Reply}
 use Rattle.calls.specs.Contents.{Collection}
 use Rattle.calls.specs.Rules.{left_by}
-use Rattle.calls.specs.Transactions.{Event, Entry, Asked, PutOff, own, laters_of}
+use Rattle.calls.specs.Transactions.{Event, Entry, Asked, Deferred, own, laters_of}
 use Rattle.abstract_locks.specs.declared.table.Hold.{Hold}
 use Rattle.undo_log.specs.Entries.{stamped_entry}
 use Rattle.undo_log.specs.Logs.{Falls}
@@ -16,12 +16,12 @@ use Rattle.catalog.specs.declared.four.Four.{Four}
 use Rattle.catalog.specs.Fours.{Which, rank, which_of, pick}
 use Rattle.catalog.specs.Laws.Numbers.{remainder_is}
 use Rattle.catalog.specs.Making.{Making}
-use Rattle.shelf.specs.Shelves.{ShelfState, on_quarter}
-use Rattle.machine.specs.Machine.{IsRunning}
+use Rattle.steps.specs.Shelves.{ShelfState, on_quarter}
+use Rattle.steps.specs.Machine.{IsRunning}
 use Rattle.undo_log.specs.Entries.{place_of}
-use Rattle.machine.specs.Wholes.{HasEntry}
-use Rattle.machine.specs.Accounts.{alone}
-use Rattle.machine.proofs.FourShelves.{rank_is, held_in, held_each}
+use Rattle.steps.specs.Wholes.{HasEntry}
+use Rattle.steps.specs.TransactionTables.{alone}
+use Rattle.steps.proofs.FourShelves.{rank_is, held_in, held_each}
 use Rattle.txn.specs.Shelved.{JournalState, IsBook, IsUntouched, IsIdle}
 
 -- Nothing of these is of a collection on the shelf.
@@ -73,7 +73,7 @@ no_laters : (w : Which) (es : List Entry) → Elsewhere w es →
 no_laters w [] none = refl
 no_laters w (Asked e ∷ es) none =
     none_first w e.at none.0 (left_by e.call e.reply) (laters_of es) ∙ no_laters w es none.1
-no_laters w (PutOff at c ∷ es) none =
+no_laters w (Deferred at c ∷ es) none =
     none_first w at none.0 (c ∷ []) (laters_of es) ∙ no_laters w es none.1
 
 abbrev ones : ℕ → List (ℕ × Entry) → List (ℕ × Entry)
@@ -97,18 +97,18 @@ no_entry w n at (x ∷ es) on none has = ⊎_elim
 pub idle_there : {S T N : Type 0} {meaning : Meaning S ℕ} {making : Making S}
     {collections : S → List Collection} {whole : N → Four T → S} {fits : N → Four T → Type 0}
     (w : Which) (j : JournalState N) (f : Four (ShelfState T)) (n : ℕ) →
-    IsBook meaning making collections whole fits j f → IsRunning (alone j.accounts) n →
-    IsUntouched w n j.accounts.entries →
-    IsIdle (pick f w) n (on_quarter (rank w) (laters_of (own n j.accounts.entries)))
+    IsBook meaning making collections whole fits j f → IsRunning (alone j.transactions) n →
+    IsUntouched w n j.transactions.entries →
+    IsIdle (pick f w) n (on_quarter (rank w) (laters_of (own n j.transactions.entries)))
 idle_there w j f n book running none = (
-  no_laters w (own n j.accounts.entries) none,
+  no_laters w (own n j.transactions.entries) none,
   λ h. (
     λ there. (
       there,
       λ (mine : h.owner ≡ n).
-          let es = j.accounts.entries in
+          let es = j.transactions.entries in
           let has = book.joined.owed.owed h (held_in f w h there)
-          (λ falls. running.standing (subst (Falls j.accounts.live) mine falls)) in
+          (λ falls. running.standing (subst (Falls j.transactions.live) mine falls)) in
           no_entry w n h.at es
           (held_each (λ (k : Hold). which_of k.at ≡ w) (pick f w).holds (book.joined.own w) h there)
           none (subst (λ m. HasEntry m h.at es) mine has),

@@ -1,6 +1,7 @@
 -- A book: the state that its records lead to, and the records that wait for a block.
 use Rattle.calls.specs.declared.format.Format.{Format}
-use Rattle.std.specs.Prelude.{◌≡◌, ◌⊎◌, ℕ, ◌+◌, ◌*◌, ◌<◌, ◌≤◌, max, Bool, true, false, cond, List, []}
+use Rattle.std.specs.Prelude.{◌≡◌, ◌⊎◌, ℕ, ◌+◌, ◌*◌, ◌<◌, ◌≤◌, max, Bool, true, false, cond, List}
+use Rattle.std.specs.Prelude.{[]}
 use Rattle.std.specs.Prelude.{◌∷◌, ◌++◌, length, map, Contains, None, Result, Ok}
 use Rattle.std.specs.FinMap as maps
 use Rattle.std.specs.List.{AllByRecursion}
@@ -14,27 +15,27 @@ use Rattle.undo_log.specs.Entries.{HasNewestCall}
 use Rattle.undo_log.specs.Logs.{Lives}
 use Rattle.boosted.specs.Meaning.{Meaning}
 use Rattle.catalog.specs.Making.{Making}
-use Rattle.record_format.specs.declared.record.Record.{Record}
-use Rattle.record_format.specs.Acts.{places}
-use Rattle.record_format.specs.Records.{IsRecord}
-use Rattle.machine.specs.Machine.{State}
-use Rattle.machine.specs.Machines.{resting, IsUpheld}
-use Rattle.blocks.specs.Cuts.{CutsOff}
-use Rattle.blocks.specs.declared.block.Block.{Block}
+use Rattle.records.specs.declared.record.Record.{Record}
+use Rattle.records.specs.Acts.{places}
+use Rattle.records.specs.Records.{IsRecord}
+use Rattle.steps.specs.Machine.{State}
+use Rattle.steps.specs.Machines.{resting, IsUpheld}
+use Rattle.records.specs.Cuts.{CutsOff}
+use Rattle.records.specs.declared.block.Block.{Block}
 use Rattle.images.specs.declared.effect.Effect.{Effect}
 use Rattle.images.specs.Gatherings.{GatheringState, none_begun, noted, AreRun, KeepsGoing}
 use Rattle.images.specs.Gatherings.{effect_at, IsInverse}
 use Rattle.calls.specs.declared.when.When.{When}
-use Rattle.txn.specs.declared.steps.Action.{Action}
-use Rattle.txn.specs.declared.steps.Target.{Target}
+use Rattle.txn.specs.declared.actions.Action.{Action}
+use Rattle.txn.specs.declared.actions.Target.{Target}
 use Rattle.txn.specs.Rows.{Standing, Answers}
 
 pub record BookState (S : Type 0) : Type 0 where
   pub state : State S
   -- the records of the steps that were not handed over yet, in order
   pub pending : List Record
-  -- the positions, counted as end is, that no block may cross: a freeze stood there, and records
-  -- from before it still wait
+  -- the LSNs, counted as end is, that no block may cross: a freeze stood there, and records from
+  -- before it still wait
   pub freezes : List ℕ
   -- how many records were handed over, and how many of these commit something
   pub end : ℕ
@@ -45,6 +46,10 @@ pub record BookState (S : Type 0) : Type 0 where
   pub next : ℕ
   -- what is kept while it is gathered
   pub gathering : GatheringState
+
+-- the state of a book of named collections
+abbrev pub NamedBook : Type 0
+NamedBook = BookState (List Collection)
 
 -- a book that was opened
 abbrev pub opened : {S : Type 0} → Format → S → (next wear : ℕ) → BookState S
@@ -73,8 +78,8 @@ abbrev pub MakesOne : {S : Type 0} → Making S → S → S → Type 0
 MakesOne making s t = (name : List ℕ) × (kind : Kind) × making.makes s name kind t
 
 -- how many records came before what the book does next
-abbrev pub position : {S : Type 0} → BookState S → ℕ
-position b = b.end + length b.pending
+abbrev pub lsn : {S : Type 0} → BookState S → ℕ
+lsn b = b.end + length b.pending
 
 -- The state is c's now, and the step's record waits behind the others. What is noted of the step
 -- while the book is gathered stands apart.
@@ -104,25 +109,25 @@ Takes meaning making b action c = Answers meaning making standing Appends Moves 
 -- nothing is noted.
 abbrev pub NotesRuns : {S : Type 0} → Meaning S ℕ → Making S → BookState S → BookState S → Type 0
 NotesRuns meaning making b c =
-    ((es : List Effect) × AreRun meaning (position c) es b.state.now c.state.now ×
+    ((es : List Effect) × AreRun meaning (lsn c) es b.state.now c.state.now ×
     (c.gathering ≡ noted b.gathering es))
     ⊎ ((c.gathering ≡ b.gathering) ×
     ((c.state.now ≡ b.state.now) ⊎ MakesOne making b.state.now c.state.now))
 
 -- Which calls an accepted step notes while the book is gathered: a call itself, unless it only
--- reads; of an undoing the one that takes the newest call back, if that did not only read and one is
--- needed; what a commit ran, in its order; of all others none.
+-- reads; of an undoing the one that takes the newest call back, if that did not only read and one
+-- is needed; what a commit ran, in its order; of all others none.
 abbrev pub Notes : {S : Type 0} → Meaning S ℕ → BookState S → Action → BookState S → Type 0
 Notes meaning b (Action.Ask n (Target.Number at) call When.Now (Ok reply)) c =
     c.gathering ≡ cond (reads call reply) b.gathering (noted b.gathering
-    (effect_at (position b + 1) (record { at = at; call = call; reply = reply }) ∷ []))
+    (effect_at (lsn b + 1) (record { at = at; call = call; reply = reply }) ∷ []))
 Notes meaning b (Action.Commit n (Ok place)) c =
-    c.gathering ≡ noted b.gathering (map (effect_at (position b + 1)) (laters_of
+    c.gathering ≡ noted b.gathering (map (effect_at (lsn b + 1)) (laters_of
     (own n b.state.entries)))
 Notes meaning b (Action.Back n (Ok true)) c = (x : Event) × HasNewestCall n b.state.entries x ×
     (((reads x.call x.reply ≡ true) × (c.gathering ≡ b.gathering)) ⊎
     ((reads x.call x.reply ≡ false) × ((es : List Effect) × IsInverse x es ×
-    AreRun meaning (position b + 1) es b.state.now c.state.now ×
+    AreRun meaning (lsn b + 1) es b.state.now c.state.now ×
     (c.gathering ≡ noted b.gathering es))))
 Notes meaning b action c = c.gathering ≡ b.gathering
 
@@ -130,8 +135,8 @@ Notes meaning b action c = c.gathering ≡ b.gathering
 pub record GoesOn {S : Type 0} (meaning : Meaning S ℕ) (making : Making S)
     (collections : S → List Collection) (b c : BookState S) : Type 0 where
   pub notes : NotesRuns meaning making b c
-  pub keeps : KeepsGoing collections b.gathering b.state.now (position b) c.gathering c.state.now
-      (position c)
+  pub keeps : KeepsGoing collections b.gathering b.state.now (lsn b) c.gathering c.state.now
+      (lsn c)
 
 -- ---- handing records over
 
@@ -157,7 +162,7 @@ module _ {S : Type 0} (meaning : Meaning S ℕ) (making : Making S) (short : For
     pub below : (n : ℕ) → Lives b.state.live n → n < b.next
     pub next : (1 ≤ b.next) × (b.next ≤ number_end)
     -- a record is a unit of wear, the one Commit or Ended of a Begin, or a Make
-    pub positions : b.end + length b.pending + maps.len b.state.live ≤ 2 * b.state.wear + length
+    pub lsns : b.end + length b.pending + maps.len b.state.live ≤ 2 * b.state.wear + length
         (making.names b.state.now)
     pub placed : b.place + places b.pending ≡ b.places
     pub counted : b.places ≤ b.end + length b.pending

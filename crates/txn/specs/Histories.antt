@@ -7,17 +7,17 @@ use Rattle.calls.specs.declared.refusal.Refusal.{Refusal}
 use Rattle.calls.specs.declared.when.When.{When}
 use Rattle.calls.specs.Contents.{Collection}
 use Rattle.calls.specs.Reads.{reads}
-use Rattle.calls.specs.Transactions.{Leads, Event, Entry, Asked, PutOff, Transaction, Act}
+use Rattle.calls.specs.Transactions.{Leads, Event, Entry, Asked, Deferred, Transaction, Act}
 use Rattle.calls.specs.Transactions.{Begins, Asks, Commits, Creates, committed, Serial}
 use Rattle.calls.specs.Limits.{max_pending}
-use Rattle.record_format.specs.declared.record.Record.{Record}
-use Rattle.record_format.specs.Acts.{places}
-use Rattle.machine.specs.Machine.{State}
+use Rattle.records.specs.declared.record.Record.{Record}
+use Rattle.records.specs.Acts.{places}
+use Rattle.steps.specs.Machine.{State}
 use Rattle.boosted.specs.Meaning.{Meaning}
 use Rattle.catalog.specs.Making.{Making}
-use Rattle.txn.specs.declared.steps.Action.{Action}
-use Rattle.txn.specs.declared.steps.BookStep.{BookStep}
-use Rattle.txn.specs.declared.steps.Target.{Target}
+use Rattle.txn.specs.declared.actions.Action.{Action}
+use Rattle.txn.specs.declared.actions.BookStep.{BookStep}
+use Rattle.txn.specs.declared.actions.Target.{Target}
 use Rattle.txn.specs.Rows.{Standing, Answers, record_of, later_record}
 
 -- ---- what steps say
@@ -31,7 +31,7 @@ of_target (Target.Named name None) f = []
 -- What a call that is asked for enters in the log of its transaction.
 abbrev pub entry_of : When → Event → Entry
 entry_of When.Now e = Asked e
-entry_of When.AtCommit e = PutOff e.at e.call
+entry_of When.AtCommit e = Deferred e.at e.call
 
 -- What a step says of transactions. A refused one says nothing.
 abbrev pub acts_of_action : Action → List Act

@@ -15,20 +15,20 @@ use Rattle.undo_log.specs.Entries.{HasNoCall}
 use Rattle.undo_log.specs.Logs.{Lives, Falls}
 use Rattle.undo_log.specs.LeftCalls.{GoesTwice}
 use Rattle.boosted.specs.Meaning.{Meaning}
-use Rattle.shelf.specs.Looks.{CanTake, TakeRefused}
+use Rattle.steps.specs.Looks.{CanTake, TakeRefused}
 use Rattle.catalog.specs.Making as naming
 use Rattle.catalog.specs.Making.{Making, IsPlaceOf, FindRefused}
 use Rattle.calls.specs.Names.{IsName}
 use Rattle.calls.specs.Limits.{max_live, max_calls, max_pending, number_end}
-use Rattle.record_format.specs.declared.record.Record.{Record}
-use Rattle.record_format.specs.Records.{record_of_call, IsNumber}
-use Rattle.machine.specs.Machine.{State, IsRunning, CanBegin, CanCall, CanPutOff, BeginRow}
-use Rattle.machine.specs.Machine.{CommitRow}
-use Rattle.machine.specs.Machine.{EndedRow, FallRow, MakeRow, CallRow, LaterRow, ReadRow, UnreadRow}
-use Rattle.machine.specs.Machine.{WrittenBackRow}
-use Rattle.machine.specs.Machines.{resting}
-use Rattle.txn.specs.declared.steps.Action.{Action}
-use Rattle.txn.specs.declared.steps.Target.{Target}
+use Rattle.records.specs.declared.record.Record.{Record}
+use Rattle.records.specs.Records.{record_of_call, IsNumber}
+use Rattle.steps.specs.Machine.{State, IsRunning, CanBegin, CanCall, CanDeferCall, BeginRow}
+use Rattle.steps.specs.Machine.{CommitRow}
+use Rattle.steps.specs.Machine.{EndedRow, FallRow, MakeRow, CallRow, LaterRow, ReadRow, UnreadRow}
+use Rattle.steps.specs.Machine.{WrittenBackRow}
+use Rattle.steps.specs.Machines.{resting}
+use Rattle.txn.specs.declared.actions.Action.{Action}
+use Rattle.txn.specs.declared.actions.Target.{Target}
 
 -- What stands of a book: the collections with the live transactions on them, how many records wait,
 -- and how many commits and makes there were.
@@ -145,7 +145,7 @@ module _ {S : Type 0} (meaning : Meaning S ℕ) where
   -- A running transaction can have the call, answered so: at once, or deferred.
   abbrev pub CanGet : When → State S → ℕ → Event → Type 0
   CanGet When.Now s n e = CanCall meaning s n e
-  CanGet When.AtCommit s n e = CanPutOff meaning s n e.at e.call × (e.reply ≡ Reply.Done)
+  CanGet When.AtCommit s n e = CanDeferCall meaning s n e.at e.call × (e.reply ≡ Reply.Done)
 
 -- The record cannot be appended: the records pending are too many, or memory is wanted.
 abbrev pub AppendRefused : {S : Type 0} → Standing S → Refusal → Type 0
@@ -173,7 +173,7 @@ EndedRefused b n e = Lives b.state.live n × HasNoCall n b.state.entries × Appe
 abbrev pub record_of : ℕ → Event → Record
 record_of n e = record_of_call n e.at e.call e.reply
 
--- the record of a call that is put off
+-- the record of a call that is deferred
 abbrev pub later_record : (number collection : ℕ) → Call → Record
 later_record n at call = Record.Later (record { number = n; collection = at; call = call })
 

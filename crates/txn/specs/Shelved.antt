@@ -14,18 +14,18 @@ use Rattle.boosted.specs.Meaning.{Meaning}
 use Rattle.catalog.specs.declared.four.Four.{Four}
 use Rattle.catalog.specs.Fours.{Which, which_of, put}
 use Rattle.catalog.specs.Making.{Making}
-use Rattle.shelf.specs.Shelves.{ShelfState}
-use Rattle.record_format.specs.declared.record.Record.{Record}
-use Rattle.record_format.specs.Acts.{places}
-use Rattle.record_format.specs.Short.{AreShort}
-use Rattle.machine.specs.Machine.{IsSettled}
-use Rattle.machine.specs.Sound.{IsSound}
-use Rattle.machine.specs.Transactions.{RunsWhole}
+use Rattle.steps.specs.Shelves.{ShelfState}
+use Rattle.records.specs.declared.record.Record.{Record}
+use Rattle.records.specs.Acts.{places}
+use Rattle.records.specs.Short.{AreShort}
+use Rattle.steps.specs.Machine.{IsSettled}
+use Rattle.steps.specs.Sound.{IsSound}
+use Rattle.steps.specs.Transactions.{RunsWhole}
 use Rattle.undo_log.specs.Entries.{place_of}
-use Rattle.machine.specs.Wholes.{AccountsState, whole_state, IsJoined}
-use Rattle.machine.specs.Accounts.{alone, rested}
+use Rattle.steps.specs.Wholes.{TransactionsState, whole_state, IsJoined}
+use Rattle.steps.specs.TransactionTables.{alone, rested}
 use Rattle.images.specs.Gatherings.{GatheringState, none_begun}
-use Rattle.txn.specs.declared.steps.Action.{Action}
+use Rattle.txn.specs.declared.actions.Action.{Action}
 use Rattle.txn.specs.Rows.{Standing}
 use Rattle.txn.specs.Books.{BookState, next_behind, IsKept, Takes, GoesOn, Notes}
 
@@ -33,7 +33,7 @@ use Rattle.txn.specs.Books.{BookState, next_behind, IsKept, Takes, GoesOn, Notes
 pub record JournalState (N : Type 0) : Type 0 where
   -- the names of the collections, with their kinds
   pub names : N
-  pub accounts : AccountsState
+  pub transactions : TransactionsState
   -- all else as a book has it
   pub pending : List Record
   pub freezes : List ℕ
@@ -48,7 +48,7 @@ pub record JournalState (N : Type 0) : Type 0 where
 abbrev pub book_state : {S T N : Type 0} → (N → Four T → S) → JournalState N →
     Four (ShelfState T) → BookState S
 book_state whole j f = record {
-  state = whole_state whole j.names j.accounts f;
+  state = whole_state whole j.names j.transactions f;
   pending = j.pending;
   freezes = j.freezes;
   end = j.end;
@@ -62,7 +62,7 @@ book_state whole j f = record {
 abbrev pub opened_journal : {N : Type 0} → Format → N → (next wear : ℕ) → JournalState N
 opened_journal format names next wear = record {
   names = names;
-  accounts = rested format wear;
+  transactions = rested format wear;
   pending = [];
   freezes = [];
   end = 0;
@@ -75,32 +75,32 @@ opened_journal format names next wear = record {
 -- what stands of a journal, without the collections and the needs on them
 abbrev pub standing_of : {N : Type 0} → JournalState N → Standing (Unit {0})
 standing_of j = record {
-  state = alone j.accounts;
+  state = alone j.transactions;
   pending = length j.pending;
   places = j.places;
 }
 
 -- how many records came before what the journal notes next
-abbrev pub journal_position : {N : Type 0} → JournalState N → ℕ
-journal_position j = j.end + length j.pending
+abbrev pub journal_lsn : {N : Type 0} → JournalState N → ℕ
+journal_lsn j = j.end + length j.pending
 
--- The step's record waits behind the others. What it does to the accounts and the names, and what
--- is noted of it, stands apart.
+-- The step's record waits behind the others. What it does to the transactions and the names, and
+-- what is noted of it, stands apart.
 pub record Writes {N : Type 0} (j : JournalState N) (r : Record) (k : JournalState N) : Type 0 where
   pub room : length j.pending < max_pending
   pub is : k ≡ record j {
     names =
         k.names;
-    accounts = k.accounts;
+    transactions = k.transactions;
     pending = j.pending ++ r ∷ [];
     places = j.places + places (r ∷ []);
     next = next_behind j.next r;
     gathering = k.gathering;
   }
 
--- Nothing but the accounts changes.
+-- Nothing but the transactions changes.
 abbrev pub Charges : {N : Type 0} → JournalState N → JournalState N → Type 0
-Charges j k = k ≡ record j { accounts = k.accounts }
+Charges j k = k ≡ record j { transactions = k.transactions }
 
 -- The newest call of the number is there, on this collection.
 abbrev pub HasNewestAt : ℕ → List (ℕ × Entry) → ℕ → Type 0
@@ -135,7 +135,8 @@ SettlesMade {S} meaning making name kind b c = (s : S) → IsSettled meaning b.s
 
 module _ {S : Type 0} (meaning : Meaning S ℕ) (making : Making S)
     (collections : S → List Collection) where
-  -- A step got its result, settled what it says, and noted what it ran; what is gathered goes along.
+  -- A step got its result, settled what it says, and noted what it ran; what is gathered goes
+  -- along.
   pub record IsServed {R : Type 0} (action : Result R Refusal → Action) (result : Result R Refusal)
       (settled : Type 0) (b c : BookState S) : Type 0 where
     pub answer : Takes meaning making b (action result) c
@@ -154,7 +155,7 @@ module _ {S T N : Type 0} (meaning : Meaning S ℕ) (making : Making S)
     (collections : S → List Collection) (whole : N → Four T → S) (fits : N → Four T → Type 0) where
   -- The journal and the shelves are a book.
   pub record IsBook (j : JournalState N) (f : Four (ShelfState T)) : Type 0 where
-    pub joined : IsJoined meaning making collections whole fits j.names j.accounts f
+    pub joined : IsJoined meaning making collections whole fits j.names j.transactions f
     pub kept : IsKept meaning making (λ form s. AreShort form (collections s))
         (IsSound meaning making) (book_state whole j f)
 

@@ -2,13 +2,13 @@
 use Rattle.std.specs.Prelude.{ℕ, ◌+◌, Bool, false, not, List, length, map}
 use Rattle.std.specs.FinMap as maps
 use Rattle.calls.specs.Reads.{reads}
-use Rattle.calls.specs.Transactions.{Event, Entry, Asked, PutOff, calls_of}
-use Rattle.machine.specs.Machine.{State, journalled_entries}
+use Rattle.calls.specs.Transactions.{Event, Entry, Asked, Deferred, calls_of}
+use Rattle.steps.specs.Machine.{State, journalled_entries}
 
 -- It is a call, and a journal tells of it.
 abbrev pub is_journalled_call : Entry → Bool
 is_journalled_call (Asked e) = not (reads e.call e.reply)
-is_journalled_call (PutOff at c) = false
+is_journalled_call (Deferred at c) = false
 
 -- the calls that a journal tells of: none that only reads
 abbrev pub journalled_calls : List (ℕ × Entry) → List Event

@@ -1,16 +1,16 @@
 -- A journal as contracts see it, from its parts.
 use Rattle.std.specs.Prelude.{ℕ}
-use Rattle.blocks.specs.Waits.{Waiting, waiting, freezes}
+use Rattle.records.specs.Waits.{Waiting, waiting, freezes}
 use Rattle.images.specs.Gatherings.{GatheringState}
-use Rattle.machine.specs.Wholes.{AccountsState}
+use Rattle.steps.specs.Wholes.{TransactionsState}
 use Rattle.txn.specs.Shelved.{JournalState}
 
 -- a journal
-abbrev pub journal_of : {N : Type 0} → N → AccountsState → Waiting → (places next : ℕ) →
+abbrev pub journal_of : {N : Type 0} → N → TransactionsState → Waiting → (places next : ℕ) →
     GatheringState → JournalState N
-journal_of names accounts w places next gathering = record {
+journal_of names transactions w places next gathering = record {
   names = names;
-  accounts = accounts;
+  transactions = transactions;
   pending = waiting w;
   freezes = freezes w;
   end = w.handed.end;

@@ -8,11 +8,11 @@ ghost use Rattle.calls.specs.declared.when.When.{When};
 ghost use Rattle.undo_log.specs.Entries.{event_of};
 ghost use Rattle.catalog.specs.Fours.{which_of};
 ghost use Rattle.undo_log.specs.LeftCalls.{GoesTwice};
-ghost use Rattle.shelf.specs.Looks.{IsLooked};
-ghost use Rattle.machine.specs.Machine.{IsRunning, CanCall, CanPutOff};
-ghost use Rattle.machine.specs.Wholes.{state_on};
-ghost use Rattle.txn.specs.declared.steps.Action.{Action};
-ghost use Rattle.txn.specs.declared.steps.Target.{Target};
+ghost use Rattle.steps.specs.Looks.{IsLooked};
+ghost use Rattle.steps.specs.Machine.{IsRunning, CanCall, CanDeferCall};
+ghost use Rattle.steps.specs.Wholes.{state_on};
+ghost use Rattle.txn.specs.declared.actions.Action.{Action};
+ghost use Rattle.txn.specs.declared.actions.Target.{Target};
 ghost use Rattle.txn.specs.Rows.{later_record, CanGet, IsOpen, OpenRefused};
 ghost use Rattle.txn.specs.Shelved.{standing_of, IsOfBook, LeadsOn, Serves};
 
@@ -21,7 +21,7 @@ use calls::limits::{MAX_CALLS, NUMBER_END};
 use calls::{Call, Need, Refusal, Reply, When};
 use catalog::Parts;
 use records::{Coded, LaterRecord, Record, call_len, encoded_len, fits_call, fits_reply};
-use shelf::{Looked, Shelf};
+use steps::{Looked, Shelf};
 use undo_log::{Entry, Handle, Later, Logged};
 
 impl<B: Parts + Coded> Journal<B> {
@@ -47,7 +47,7 @@ impl<B: Parts + Coded> Journal<B> {
     ) -> Result<Reply, Refusal>
         requires kept { IsOfBook B.meaning B.making B.collections B.whole B.fits (which_of at)
             self.old shelf.old }
-        requires looked { IsLooked B.Shelf.meaning when self.old.accounts.format shelf.old
+        requires looked { IsLooked B.Shelf.meaning when self.old.transactions.format shelf.old
             handle.number at
             call.now looked }
         ensures step { LeadsOn B.meaning B.making B.collections B.whole B.fits
@@ -79,11 +79,11 @@ impl<B: Parts + Coded> Journal<B> {
     // Whether the call, answered so, would leave to the commit what is going already.
     fn goes_twice(&self, handle: Handle, at: u8, call: &Call, when: When, reply: &Reply) -> bool
         ensures { IsTrue result ↔ (when ≡ When.Now) ×
-            GoesTwice self.now.accounts.entries handle.number
+            GoesTwice self.now.transactions.entries handle.number
             (record { at = at; call = call.now; reply = reply.now }) }
     {
         match when {
-            When::Now => self.accounts.live().goes_twice(handle, at, call, reply),
+            When::Now => self.transactions.live().goes_twice(handle, at, call, reply),
             When::AtCommit => false,
         }
     }
@@ -103,7 +103,7 @@ impl<B: Parts + Coded> Journal<B> {
         requires kept { IsOfBook B.meaning B.making B.collections B.whole B.fits (which_of at)
             self.old shelf.old }
         requires open { IsOpen (Unit {0}) (standing_of self.old) handle.number }
-        requires can { CanGet B.Shelf.meaning when (state_on self.old.accounts shelf.old)
+        requires can { CanGet B.Shelf.meaning when (state_on self.old.transactions shelf.old)
             handle.number
             (record { at = at; call = call.now; reply = reply.now }) }
         requires needed { need ≡ need_of call.now reply.now }
@@ -140,7 +140,8 @@ impl<B: Parts + Coded> Journal<B> {
         requires kept { IsOfBook B.meaning B.making B.collections B.whole B.fits (which_of at)
             self.old shelf.old }
         requires open { IsOpen (Unit {0}) (standing_of self.old) handle.number }
-        requires can { CanCall B.Shelf.meaning (state_on self.old.accounts shelf.old) handle.number
+        requires can { CanCall B.Shelf.meaning (state_on self.old.transactions shelf.old)
+            handle.number
             (record { at = at; call = call.now; reply = reply.now }) }
         requires needed { need ≡ need_of call.now reply.now }
         requires only_reads { reads call.now reply.now ≡ true }
@@ -153,7 +154,7 @@ impl<B: Parts + Coded> Journal<B> {
         ensures refusal { IsOkUnless result Refusal.NoMemory }
     {
         let asked = logged(at, call, reply)?;
-        self.accounts.read(shelf, handle, asked, need)
+        self.transactions.read(shelf, handle, asked, need)
     }
 
     // Makes the call, which does not only read, under its record, from its parts.
@@ -169,7 +170,8 @@ impl<B: Parts + Coded> Journal<B> {
         requires kept { IsOfBook B.meaning B.making B.collections B.whole B.fits (which_of at)
             self.old shelf.old }
         requires open { IsOpen (Unit {0}) (standing_of self.old) handle.number }
-        requires can { CanCall B.Shelf.meaning (state_on self.old.accounts shelf.old) handle.number
+        requires can { CanCall B.Shelf.meaning (state_on self.old.transactions shelf.old)
+            handle.number
             (record { at = at; call = call.now; reply = reply.now }) }
         requires needed { need ≡ need_of call.now reply.now }
         requires written { reads call.now reply.now ≡ false }
@@ -183,11 +185,11 @@ impl<B: Parts + Coded> Journal<B> {
     {
         prove!(fits_call(call));
         prove!(fits_reply(reply));
-        let position = self.next_position();
+        let lsn = self.next_lsn();
         self.pending.reserve(call_len(call, reply))?;
         let asked = logged(at, call, reply)?;
-        let effect = self.gathering.effect_of_call(&asked, position)?;
-        self.accounts
+        let effect = self.gathering.effect_of_call(&asked, lsn)?;
+        self.transactions
             .take(shelf, handle, Entry::Asked(asked), need)?;
         self.gathering.note(effect);
         self.pending.push_call(handle.number, at, call, reply);
@@ -206,7 +208,7 @@ impl<B: Parts + Coded> Journal<B> {
         requires kept { IsOfBook B.meaning B.making B.collections B.whole B.fits (which_of at)
             self.old shelf.old }
         requires open { IsOpen (Unit {0}) (standing_of self.old) handle.number }
-        requires can { CanPutOff B.Shelf.meaning (state_on self.old.accounts shelf.old)
+        requires can { CanDeferCall B.Shelf.meaning (state_on self.old.transactions shelf.old)
             handle.number at
             call.now }
         requires needed { need ≡ need_of call.now Reply.Done }
@@ -223,7 +225,8 @@ impl<B: Parts + Coded> Journal<B> {
         };
         let entry = later_record(handle.number, at, call)?;
         self.pending.reserve(encoded_len(&entry))?;
-        self.accounts.take(shelf, handle, Entry::PutOff(put), need)?;
+        self.transactions
+            .take(shelf, handle, Entry::Deferred(put), need)?;
         self.pending.push(entry);
         Ok(())
     }
@@ -234,10 +237,10 @@ impl<B: Parts + Coded> Journal<B> {
         ensures ok { OnOk result (IsOpen (Unit {0}) (standing_of self.now) handle.number) }
         ensures err { IfErr result (OpenRefused (Unit {0}) (standing_of self.now) handle.number) }
     {
-        if self.accounts.wear() >= NUMBER_END {
+        if self.transactions.wear() >= NUMBER_END {
             return Err(Refusal::Worn);
         }
-        if self.accounts.live().count(handle) >= MAX_CALLS {
+        if self.transactions.live().count(handle) >= MAX_CALLS {
             return Err(Refusal::TooManyCalls);
         }
         self.check_backlog()

@@ -13,30 +13,29 @@ ghost use Rattle.calls.specs.Limits.{max_collections, number_end, max_wear};
 ghost use Rattle.catalog.specs.Making.{IsPlaceOf, FindRefused};
 ghost use Rattle.catalog.specs.Fours.{Which, rank, pick};
 ghost use Rattle.catalog.specs.declared.four.Four.{Four};
-ghost use Rattle.shelf.specs.Shelves.{CanRun, Settles, ShelfState, on_quarter};
-ghost use Rattle.record_format.specs.Short.{AreShort};
-ghost use Rattle.machine.specs.Machine.{IsSettled};
-ghost use Rattle.machine.specs.Transactions.{RunsWhole};
-ghost use Rattle.machine.specs.Sound.{IsSound};
+ghost use Rattle.steps.specs.Shelves.{CanRun, Settles, ShelfState, on_quarter};
+ghost use Rattle.records.specs.Short.{AreShort};
+ghost use Rattle.steps.specs.Machine.{IsSettled};
+ghost use Rattle.steps.specs.Transactions.{RunsWhole};
+ghost use Rattle.steps.specs.Sound.{IsSound};
 ghost use Rattle.images.specs.Gatherings.{GoesAlong};
-ghost use Rattle.blocks.specs.Cuts.{IsNextBlock};
-ghost use Rattle.txn.specs.declared.steps.Action.{Action};
-ghost use Rattle.txn.specs.declared.steps.Target.{Target};
-ghost use Rattle.txn.specs.Books.{opened, position, IsKept, Takes, GoesOn, Notes, CutAnswers};
+ghost use Rattle.records.specs.Cuts.{IsNextBlock};
+ghost use Rattle.txn.specs.declared.actions.Action.{Action};
+ghost use Rattle.txn.specs.declared.actions.Target.{Target};
+ghost use Rattle.txn.specs.Books.{opened, lsn, IsKept, Takes, GoesOn, Notes, CutAnswers};
 ghost use Rattle.txn.specs.Freezing.{IsGatheredOf, BookGathers, FreezeAnswers};
 ghost use Rattle.txn.specs.Shelved.{book_state, IsBook};
 ghost use Rattle.txn.specs.Undoings.{undo_count};
 
 use crate::Journal;
-use blocks::{NextBlock, Outbox};
 use boosted::Boosted;
 use calls::{Call, Format, Kind, Refusal, Reply, When};
 use catalog::{Four, Parts};
 use images::Gather;
-use records::Coded;
-use shelf::Shelf;
+use records::{Coded, NextBlock, Outbox};
 use std::alloc::Global;
 use std::marker::Model;
+use steps::Shelf;
 use undo_log::{Handle, Stamped};
 
 /// The collections with the live transactions on them, and the records of the steps that were not
@@ -134,8 +133,8 @@ impl<B: Parts + Coded> Book<B> {
         self.journal.count_live()
     }
 
-    /// How much the store is worn: how often anything was entered, called, put off, run in a commit
-    /// or undone over its life, up to 2^61. This is no step.
+    /// How much the store is worn: how often anything was entered, called, deferred, run in a
+    /// commit or undone over its life, up to 2^61. This is no step.
     pub fn wear(&self) -> u64
         ensures { result ≡ self.now.state.wear }
     {
@@ -158,12 +157,12 @@ impl<B: Parts + Coded> Book<B> {
         self.journal.next_block()
     }
 
-    /// The position behind the last record, counted since the book was opened: how many records
-    /// were handed over or wait. This is no step.
-    pub fn position(&self) -> u64
-        ensures { result ≡ position self.now }
+    /// The LSN behind the last record, counted since the book was opened: how many records were
+    /// handed over or wait. This is no step.
+    pub fn lsn(&self) -> u64
+        ensures { result ≡ lsn self.now }
     {
-        self.journal.position()
+        self.journal.lsn()
     }
 
     /// How many records the undoing of all that is live takes: a Back for each live call that does
@@ -236,9 +235,9 @@ impl<B: Parts + Coded> Book<B> {
         journal.ask(shelf, Handle { number, slot }, at, call, when, looked)
     }
 
-    /// Commits the transaction: what it put off, and what its calls left, runs in the order asked,
+    /// Commits the transaction: what it deferred, and what its calls left, runs in the order asked,
     /// all that it asked for stays, and its needs go. Answers the count of commits and makes since
-    /// the book was opened, this one included. Nothing that was put off can refuse it.
+    /// the book was opened, this one included. Nothing that was deferred can refuse it.
     ///
     /// NoSuchTxn, Falling, Backlog, NoMemory.
     pub fn commit(&mut self, number: u64) -> Result<u64, Refusal>
@@ -281,7 +280,7 @@ impl<B: Parts + Coded> Book<B> {
         journal.back(shelves.of_mut(at), handle, at)
     }
 
-    /// Ends a transaction whose calls are all undone: its needs go, and what it put off is never
+    /// Ends a transaction whose calls are all undone: its needs go, and what it deferred is never
     /// run.
     ///
     /// NoSuchTxn, Unfinished where a call is not undone, Backlog, NoMemory.
@@ -316,7 +315,7 @@ impl<B: Parts + Coded> Book<B> {
     }
 }
 
-// Runs on each shelf what these entries of the transaction put off or left there, and gives its
+// Runs on each shelf what these entries of the transaction deferred or left there, and gives its
 // needs up. How many calls ran.
 fn settle_all<C: Boosted<At = u8>>(
     shelves: &mut Four<Shelf<C>>,

@@ -8,14 +8,14 @@ ghost use Rattle.calls.specs.Transactions.{own, laters_of};
 ghost use Rattle.undo_log.specs.Entries.{stamped_entry, HasNoCall};
 ghost use Rattle.undo_log.specs.Logs.{Lives};
 ghost use Rattle.catalog.specs.Fours.{Which, which_of, pick};
-ghost use Rattle.record_format.specs.declared.record.Record.{Record};
-ghost use Rattle.machine.specs.Machine.{IsRunning, HasNewestRead};
+ghost use Rattle.records.specs.declared.record.Record.{Record};
+ghost use Rattle.steps.specs.Machine.{IsRunning, HasNewestRead};
 ghost use Rattle.undo_log.specs.Entries.{place_of};
-ghost use Rattle.machine.specs.Accounts.{finished};
+ghost use Rattle.steps.specs.TransactionTables.{finished};
 ghost use Rattle.images.specs.Gatherings.{noted, effect_at};
-ghost use Rattle.txn.specs.declared.steps.Action.{Action};
+ghost use Rattle.txn.specs.declared.actions.Action.{Action};
 ghost use Rattle.txn.specs.Rows.{CommitRefused, EndedRefused};
-ghost use Rattle.txn.specs.Shelved.{standing_of, journal_position, IsJournal, IsOfBook, LeadsOn};
+ghost use Rattle.txn.specs.Shelved.{standing_of, journal_lsn, IsJournal, IsOfBook, LeadsOn};
 ghost use Rattle.txn.specs.Shelved.{LeadsBeside, Serves, Writes, HasNewestAt, IsUntouched};
 
 use crate::Journal;
@@ -23,17 +23,17 @@ use crate::journal::MARK_LEN;
 use calls::Refusal;
 use catalog::{Four, Parts};
 use records::{Coded, Record};
-use shelf::Shelf;
+use steps::Shelf;
 use undo_log::{Handle, Stamped};
 
 impl<B: Parts + Coded> Journal<B> {
     /// The number of the collection of the transaction's newest call that is not undone, if there
     /// is one. This is no step.
     pub fn newest(&self, handle: Handle) -> Option<u8>
-        ensures some { IfSome result (HasNewestAt handle.number self.now.accounts.entries) }
-        ensures none { IfNone result (HasNoCall handle.number self.now.accounts.entries) }
+        ensures some { IfSome result (HasNewestAt handle.number self.now.transactions.entries) }
+        ensures none { IfNone result (HasNoCall handle.number self.now.transactions.entries) }
     {
-        match self.accounts.live().newest(handle) {
+        match self.transactions.live().newest(handle) {
             Some(newest) => Some(newest.at),
             None => None,
         }
@@ -52,7 +52,7 @@ impl<B: Parts + Coded> Journal<B> {
     ) -> Result<bool, Refusal>
         requires kept { IsOfBook B.meaning B.making B.collections B.whole B.fits (which_of at)
             self.old shelf.old }
-        requires newest { HasNewestAt handle.number self.old.accounts.entries at }
+        requires newest { HasNewestAt handle.number self.old.transactions.entries at }
         ensures { LeadsOn B.meaning B.making B.collections B.whole B.fits
             (Serves B.meaning B.making B.collections (Action.Back handle.number) result)
             (which_of at)
@@ -61,7 +61,7 @@ impl<B: Parts + Coded> Journal<B> {
         self.check_live(handle)?;
         self.check_backlog()?;
         if self.newest_reads(handle) {
-            self.accounts.unread(handle);
+            self.transactions.unread(handle);
             return Ok(true);
         }
         self.write_back(shelf, handle, at)?;
@@ -74,14 +74,14 @@ impl<B: Parts + Coded> Journal<B> {
     /// NoSuchTxn, Backlog. Each leaves the journal as before.
     pub fn back_none(&mut self, handle: Handle) -> Result<bool, Refusal>
         requires kept { IsJournal B.meaning B.making B.collections B.whole B.fits self.old }
-        requires none { HasNoCall handle.number self.old.accounts.entries }
+        requires none { HasNoCall handle.number self.old.transactions.entries }
         ensures { LeadsBeside B.meaning B.making B.collections B.whole B.fits
             (Serves B.meaning B.making B.collections (Action.Back handle.number) result) self.old
             self.new }
     {
         self.check_live(handle)?;
         self.check_backlog()?;
-        self.accounts.fall(handle);
+        self.transactions.fall(handle);
         Ok(false)
     }
 
@@ -96,20 +96,20 @@ impl<B: Parts + Coded> Journal<B> {
         ensures running { OnOk result (IsRunning (standing_of self.old).state handle.number) }
         ensures written { OnOk result (Writes self.old (Record.Commit handle.number) self.new) }
         ensures place { IfOk result (λ place. place ≡ self.new.places) }
-        ensures accounts { OnOk result (self.new.accounts ≡ self.old.accounts) }
+        ensures transactions { OnOk result (self.new.transactions ≡ self.old.transactions) }
         ensures names { OnOk result (self.new.names ≡ self.old.names) }
         ensures noted { OnOk result (self.new.gathering ≡ noted self.old.gathering
-            (map (effect_at (journal_position self.old + 1))
-            (laters_of (own handle.number self.old.accounts.entries)))) }
+            (map (effect_at (journal_lsn self.old + 1))
+            (laters_of (own handle.number self.old.transactions.entries)))) }
         ensures same { OnErr result (self.new ≡ self.old) }
         ensures err { IfErr result (CommitRefused (standing_of self.old) handle.number) }
     {
         self.check_running(handle)?;
         self.check_backlog()?;
-        let position = self.next_position();
+        let lsn = self.next_lsn();
         self.pending.reserve(MARK_LEN)?;
-        let entries = self.accounts.live().entries_of(handle);
-        let effects = self.gathering.effects_of_commit(entries, position)?;
+        let entries = self.transactions.live().entries_of(handle);
+        let effects = self.gathering.effects_of_commit(entries, lsn)?;
         self.gathering.note_all(effects);
         self.pending.push(Record::Commit(handle.number));
         self.places += 1;
@@ -123,10 +123,10 @@ impl<B: Parts + Coded> Journal<B> {
     /// as before.
     pub fn prepare_end(&mut self, handle: Handle) -> Result<(), Refusal>
         requires kept { IsJournal B.meaning B.making B.collections B.whole B.fits self.old }
-        ensures live { OnOk result (Lives self.old.accounts.live handle.number) }
-        ensures undone { OnOk result (HasNoCall handle.number self.old.accounts.entries) }
+        ensures live { OnOk result (Lives self.old.transactions.live handle.number) }
+        ensures undone { OnOk result (HasNoCall handle.number self.old.transactions.entries) }
         ensures written { OnOk result (Writes self.old (Record.Ended handle.number) self.new) }
-        ensures accounts { OnOk result (self.new.accounts ≡ self.old.accounts) }
+        ensures transactions { OnOk result (self.new.transactions ≡ self.old.transactions) }
         ensures names { OnOk result (self.new.names ≡ self.old.names) }
         ensures noted { OnOk result (self.new.gathering ≡ self.old.gathering) }
         ensures same { OnErr result (self.new ≡ self.old) }
@@ -144,16 +144,16 @@ impl<B: Parts + Coded> Journal<B> {
 
     /// What the transaction asked for and did not undo, in the order asked. This is no step.
     pub fn entries_of(&self, handle: Handle) -> &[Stamped]
-        ensures { map stamped_entry result.now ≡ own handle.number self.now.accounts.entries }
+        ensures { map stamped_entry result.now ≡ own handle.number self.now.transactions.entries }
     {
-        self.accounts.live().entries_of(handle)
+        self.transactions.live().entries_of(handle)
     }
 
     /// Of each shelf, whether the transaction asked for something there and did not undo it. It
     /// looks at what the transaction asked for, and takes no memory. This is no step.
     pub fn shelves_of(&self, handle: Handle) -> Four<bool>
         ensures { (w : Which) → (pick result w ≡ false) ↔
-            IsUntouched w handle.number self.now.accounts.entries }
+            IsUntouched w handle.number self.now.transactions.entries }
     {
         let entries = self.entries_of(handle);
         Four {
@@ -167,12 +167,12 @@ impl<B: Parts + Coded> Journal<B> {
     /// The last part of a commit or an end: the transaction is taken out, for which so many calls
     /// ran on its shelves. It takes no memory.
     pub fn finish(&mut self, number: u64, ran: u64)
-        requires { self.old.accounts.wear + ran < 2 ^ 64 }
+        requires { self.old.transactions.wear + ran < 2 ^ 64 }
         ensures { self.new ≡ record self.old {
-          accounts = finished number ran self.old.accounts;
+          transactions = finished number ran self.old.transactions;
         } }
     {
-        self.accounts.finish(number, ran);
+        self.transactions.finish(number, ran);
     }
 
     // Undoes the newest call, which does not only read, under its record.
@@ -184,9 +184,9 @@ impl<B: Parts + Coded> Journal<B> {
     ) -> Result<(), Refusal>
         requires kept { IsOfBook B.meaning B.making B.collections B.whole B.fits (which_of at)
             self.old shelf.old }
-        requires live { Lives self.old.accounts.live handle.number }
-        requires newest { HasNewestAt handle.number self.old.accounts.entries at }
-        requires written { HasNewestRead handle.number self.old.accounts.entries → ⊥ }
+        requires live { Lives self.old.transactions.live handle.number }
+        requires newest { HasNewestAt handle.number self.old.transactions.entries at }
+        requires written { HasNewestRead handle.number self.old.transactions.entries → ⊥ }
         requires room { length self.old.pending < max_pending }
         ensures ok { OnOk result (LeadsOn B.meaning B.making B.collections B.whole B.fits
             (Serves B.meaning B.making B.collections (Action.Back handle.number) (Ok true))
@@ -195,15 +195,15 @@ impl<B: Parts + Coded> Journal<B> {
         ensures same { OnErr result ((self.new ≡ self.old) × (shelf.new ≡ shelf.old)) }
         ensures refusal { IsOkUnless result Refusal.NoMemory }
     {
-        let position = self.next_position();
+        let lsn = self.next_lsn();
         self.pending.reserve(MARK_LEN)?;
-        let Some(newest) = self.accounts.live().newest(handle) else {
+        let Some(newest) = self.transactions.live().newest(handle) else {
             unreachable!();
         };
         let effect = self
             .gathering
-            .effect_of_undoing(shelf.collections(), newest, position)?;
-        self.accounts.back(shelf, handle)?;
+            .effect_of_undoing(shelf.collections(), newest, lsn)?;
+        self.transactions.back(shelf, handle)?;
         self.gathering.note(effect);
         self.pending.push(Record::Back(handle.number));
         Ok(())
@@ -211,9 +211,9 @@ impl<B: Parts + Coded> Journal<B> {
 
     // Whether the newest call of the transaction is there and only reads.
     fn newest_reads(&self, handle: Handle) -> bool
-        ensures { IsTrue result ↔ HasNewestRead handle.number self.now.accounts.entries }
+        ensures { IsTrue result ↔ HasNewestRead handle.number self.now.transactions.entries }
     {
-        match self.accounts.live().newest(handle) {
+        match self.transactions.live().newest(handle) {
             Some(newest) => newest.call.reads(&newest.reply),
             None => false,
         }

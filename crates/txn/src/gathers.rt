@@ -7,8 +7,8 @@ ghost use Rattle.catalog.specs.declared.four.Four.{Four};
 ghost use Rattle.catalog.specs.Fours.{which_of, pick};
 ghost use Rattle.catalog.specs.Holdings.{Measures};
 ghost use Rattle.catalog.specs.Places.{At};
-ghost use Rattle.shelf.specs.Shelves.{ShelfState};
-ghost use Rattle.machine.specs.Wholes.{contents};
+ghost use Rattle.steps.specs.Shelves.{ShelfState};
+ghost use Rattle.steps.specs.Wholes.{contents};
 ghost use Rattle.images.specs.Gatherings.{CanGoOn};
 ghost use Rattle.txn.specs.Parts.{IsGivenNext, GathersOn};
 ghost use Rattle.txn.specs.Freezing.{IsGatheredOf, FreezeAnswers};
@@ -17,9 +17,9 @@ ghost use Rattle.txn.specs.Shelved.{book_state, IsBook};
 use crate::Journal;
 use calls::Refusal;
 use catalog::{Measured, Named, Parts, Shelved};
-use images::{Gather, Marks};
+use images::{Gather, ImageHead};
 use records::Coded;
-use shelf::Shelf;
+use steps::Shelf;
 
 impl<B: Parts + Coded> Journal<B> {
     /// The name of the collection of the number, if there is one. One index; this is no step.
@@ -92,16 +92,16 @@ impl<B: Parts + Coded> Journal<B> {
             part → GathersOn B.Names.labels B.Shelf.holds B.Part.collection B.meaning B.making
             B.collections B.whole B.fits self.old f gather.old result self.new gather.new }
     {
-        let position = self.pending.position();
+        let lsn = self.pending.lsn();
         let count = self.names.count();
-        self.gathering.gather::<B>(count, part, position, gather)
+        self.gathering.gather::<B>(count, part, lsn, gather)
     }
 
     /// Ends the gathering of the book, all collections of which are copied: hands over the rest of
     /// the calls, and notes beside them the live transactions with what they asked for, but for
-    /// what a falling one put off, and the marks of where the book stands. It marks the position
-    /// behind the last record too: no block that `cut` hands over from now on holds records from
-    /// both sides of it.
+    /// what a falling one deferred, and the head of where the book stands. It marks the LSN behind
+    /// the last record too: no block that `cut` hands over from now on holds records from both
+    /// sides of it.
     ///
     /// It takes time and memory in proportion to what the live transactions asked for.
     ///
@@ -122,15 +122,15 @@ impl<B: Parts + Coded> Journal<B> {
     {
         self.gathering.check_freeze(self.names.count(), gather)?;
         self.pending.reserve_seal()?;
-        let marks = Marks {
-            format: self.accounts.format(),
+        let image_head = ImageHead {
+            format: self.transactions.format(),
             next: self.next,
-            wear: self.accounts.wear(),
-            end: self.pending.position(),
+            wear: self.transactions.wear(),
+            end: self.pending.lsn(),
             place: self.places,
         };
         self.gathering
-            .freeze::<B>(marks, self.accounts.live(), gather)?;
+            .freeze::<B>(image_head, self.transactions.live(), gather)?;
         let Ok(()) = self.pending.seal() else {
             unreachable!();
         };

@@ -9,25 +9,24 @@ ghost use Rattle.calls.specs.Names.{IsName};
 ghost use Rattle.undo_log.specs.Logs.{Lives};
 ghost use Rattle.catalog.specs.Making.{IsPlaceOf, FindRefused};
 ghost use Rattle.catalog.specs.Woven.{names_in};
-ghost use Rattle.blocks.specs.Cuts.{IsNextBlock};
-ghost use Rattle.machine.specs.Machine.{IsRunning};
-ghost use Rattle.txn.specs.declared.steps.Action.{Action};
+ghost use Rattle.records.specs.Cuts.{IsNextBlock};
+ghost use Rattle.steps.specs.Machine.{IsRunning};
+ghost use Rattle.txn.specs.declared.actions.Action.{Action};
 ghost use Rattle.txn.specs.Books.{CutAnswers};
 ghost use Rattle.txn.specs.Rows.{RunRefused, CanEnter, EnterRefused};
-ghost use Rattle.txn.specs.Shelved.{opened_journal, journal_position, standing_of, IsJournal};
+ghost use Rattle.txn.specs.Shelved.{opened_journal, journal_lsn, standing_of, IsJournal};
 ghost use Rattle.txn.specs.Shelved.{LeadsBeside, Serves, Settles};
 ghost use Rattle.txn.specs.Undoings.{undo_count};
 
 use crate::undoing::count_journalled;
-use blocks::{NextBlock, Outbox, Pending};
 use calls::limits::{MAX_COLLECTIONS, MAX_LIVE, MAX_PENDING, NUMBER_END};
 use calls::{Format, Kind, Refusal};
 use catalog::{Named, Parts};
 use images::Gathering;
-use machine::Accounts;
-use records::{Coded, Record};
+use records::{Coded, NextBlock, Outbox, Pending, Record};
 use std::alloc::Global;
 use std::marker::Model;
+use steps::TransactionTable;
 use undo_log::Handle;
 
 // The bytes of a record of a transaction's number alone.
@@ -41,7 +40,7 @@ pub(crate) const MARK_LEN: usize = 9;
 pub struct Journal<B: Parts + Coded> {
     pub(crate) alloc: Global,
     pub(crate) names: B::Names,
-    pub(crate) accounts: Accounts,
+    pub(crate) transactions: TransactionTable,
     pub(crate) pending: Pending,
     // the commits and makes since the book was opened
     pub(crate) places: u64,
@@ -56,14 +55,14 @@ impl<B: Parts + Coded> Drop for Journal<B> {
         let Self {
             alloc: _alloc,
             names,
-            accounts,
+            transactions,
             pending,
             places: _places,
             next: _next,
             gathering,
         } = self;
         drop(names);
-        drop(accounts);
+        drop(transactions);
         drop(pending);
         drop(gathering);
     }
@@ -80,7 +79,7 @@ impl<B: Parts + Coded> Model for Journal<B> {
 
     ghost coded = { Prim.hlevel (codes, maps.code {R = nat_cmp} coded_ℕ coded_bool) };
 
-    ghost view = { λ j. journal_of j.names j.accounts j.pending j.places j.next j.gathering };
+    ghost view = { λ j. journal_of j.names j.transactions j.pending j.places j.next j.gathering };
 }
 
 impl<B: Parts + Coded> Journal<B> {
@@ -93,7 +92,7 @@ impl<B: Parts + Coded> Journal<B> {
         Self {
             alloc,
             names,
-            accounts: Accounts::new(alloc, format, wear),
+            transactions: TransactionTable::new(alloc, format, wear),
             pending: Pending::new(alloc),
             places: 0,
             next,
@@ -108,13 +107,13 @@ impl<B: Parts + Coded> Journal<B> {
         let Self {
             alloc: _alloc,
             names,
-            accounts,
+            transactions,
             pending,
             places: _places,
             next: _next,
             gathering,
         } = self;
-        drop(accounts);
+        drop(transactions);
         drop(pending);
         drop(gathering);
         names
@@ -129,23 +128,23 @@ impl<B: Parts + Coded> Journal<B> {
 
     /// The format of the store. This is no step.
     pub fn format(&self) -> Format
-        ensures { result ≡ self.now.accounts.format }
+        ensures { result ≡ self.now.transactions.format }
     {
-        self.accounts.format()
+        self.transactions.format()
     }
 
     /// How many transactions are live. This is no step.
     pub fn count_live(&self) -> usize
-        ensures { result ≡ maps.len self.now.accounts.live }
+        ensures { result ≡ maps.len self.now.transactions.live }
     {
-        self.accounts.live().count_live()
+        self.transactions.live().count_live()
     }
 
     /// How much the store is worn. This is no step.
     pub fn wear(&self) -> u64
-        ensures { result ≡ self.now.accounts.wear }
+        ensures { result ≡ self.now.transactions.wear }
     {
-        self.accounts.wear()
+        self.transactions.wear()
     }
 
     /// How many records wait to be handed over. This is no step.
@@ -164,12 +163,12 @@ impl<B: Parts + Coded> Journal<B> {
         self.pending.next_block()
     }
 
-    /// The position behind the last record, counted since the book was opened. This is no step.
-    pub fn position(&self) -> u64
+    /// The LSN behind the last record, counted since the book was opened. This is no step.
+    pub fn lsn(&self) -> u64
         requires { IsJournal B.meaning B.making B.collections B.whole B.fits self.now }
-        ensures { result ≡ journal_position self.now }
+        ensures { result ≡ journal_lsn self.now }
     {
-        self.pending.position()
+        self.pending.lsn()
     }
 
     /// How many records the undoing of all that is live takes. It looks at what each live
@@ -178,14 +177,14 @@ impl<B: Parts + Coded> Journal<B> {
         requires { IsJournal B.meaning B.making B.collections B.whole B.fits self.now }
         ensures { result ≡ undo_count (standing_of self.now).state }
     {
-        let live = self.accounts.live();
+        let live = self.transactions.live();
         count_journalled(live) + live.count_live() as u64
     }
 
     /// The slot of the number's transaction, for its handle; any where it is not live. One search;
     /// this is no step.
     pub fn slot(&self, number: u64) -> usize {
-        self.accounts.live().slot(number)
+        self.transactions.live().slot(number)
     }
 
     /// The number of the collection of the name, as `Named::find` answers. This is no step.
@@ -232,7 +231,7 @@ impl<B: Parts + Coded> Journal<B> {
     {
         self.check_enter(number)?;
         self.pending.reserve(MARK_LEN)?;
-        self.accounts.begin(number)?;
+        self.transactions.begin(number)?;
         self.pending.push(Record::Begin(number));
         self.next = self.next.max(number + 1);
         Ok(())
@@ -252,12 +251,12 @@ impl<B: Parts + Coded> Journal<B> {
         self.pending.cut(out)
     }
 
-    // The position behind the next record.
-    pub(crate) fn next_position(&self) -> u64
+    // The LSN behind the next record.
+    pub(crate) fn next_lsn(&self) -> u64
         requires { IsJournal B.meaning B.making B.collections B.whole B.fits self.now }
-        ensures { result ≡ journal_position self.now + 1 }
+        ensures { result ≡ journal_lsn self.now + 1 }
     {
-        self.position() + 1
+        self.lsn() + 1
     }
 
     // Whether a record more may wait.
@@ -274,11 +273,11 @@ impl<B: Parts + Coded> Journal<B> {
 
     // Whether the transaction is live.
     pub(crate) fn check_live(&self, handle: Handle) -> Result<(), Refusal>
-        ensures ok { OnOk result (Lives self.now.accounts.live handle.number) }
+        ensures ok { OnOk result (Lives self.now.transactions.live handle.number) }
         ensures err { IfErr result (λ e. (e ≡ Refusal.NoSuchTxn) ×
-            (Lives self.now.accounts.live handle.number → ⊥)) }
+            (Lives self.now.transactions.live handle.number → ⊥)) }
     {
-        if self.accounts.live().is_live(handle) {
+        if self.transactions.live().is_live(handle) {
             Ok(())
         } else {
             Err(Refusal::NoSuchTxn)
@@ -291,7 +290,7 @@ impl<B: Parts + Coded> Journal<B> {
         ensures err { IfErr result (RunRefused (standing_of self.now) handle.number) }
     {
         self.check_live(handle)?;
-        if self.accounts.live().is_falling(handle) {
+        if self.transactions.live().is_falling(handle) {
             return Err(Refusal::Falling);
         }
         Ok(())
@@ -305,14 +304,14 @@ impl<B: Parts + Coded> Journal<B> {
         if number == 0 || number >= NUMBER_END {
             return Err(Refusal::BadArg);
         }
-        let live = self.accounts.live();
+        let live = self.transactions.live();
         if live.contains(number) {
             return Err(Refusal::AlreadyLive);
         }
         if live.count_live() >= MAX_LIVE {
             return Err(Refusal::TooManyLive);
         }
-        if self.accounts.wear() >= NUMBER_END {
+        if self.transactions.wear() >= NUMBER_END {
             return Err(Refusal::Worn);
         }
         self.check_backlog()

@@ -1,14 +1,14 @@
 // The making of a collection, over the names and the shelf of the next number.
 ghost use Rattle.std.specs.Prelude.{◌≡◌, OnOk, length};
 ghost use Rattle.catalog.specs.Fours.{which_of};
-ghost use Rattle.txn.specs.declared.steps.Action.{Action};
+ghost use Rattle.txn.specs.declared.actions.Action.{Action};
 ghost use Rattle.txn.specs.Shelved.{IsOfBook, LeadsOn, IsServed, SettlesMade};
 
 use crate::Journal;
 use calls::{Kind, Name, Refusal};
 use catalog::{Named, Parts};
 use records::{Coded, Record};
-use shelf::Shelf;
+use steps::Shelf;
 
 // The bytes of a record of a making but for the name.
 const MAKE_HEAD: usize = 3;

@@ -5,11 +5,11 @@ ghost use Rattle.std.specs.List.{AllZip};
 ghost use Rattle.calls.specs.Limits.{max_collections, number_end, max_wear};
 ghost use Rattle.catalog.specs.Holdings.{Measures};
 ghost use Rattle.catalog.specs.Places.{At};
-ghost use Rattle.record_format.specs.Short.{AreShort};
-ghost use Rattle.machine.specs.Machine.{IsSettled};
+ghost use Rattle.records.specs.Short.{AreShort};
+ghost use Rattle.steps.specs.Machine.{IsSettled};
 ghost use Rattle.images.specs.Gatherings.{GoesAlong};
-ghost use Rattle.txn.specs.declared.steps.Action.{Action};
-ghost use Rattle.txn.specs.Books.{opened, position, Takes, GoesOn, Notes};
+ghost use Rattle.txn.specs.declared.actions.Action.{Action};
+ghost use Rattle.txn.specs.Books.{opened, lsn, Takes, GoesOn, Notes};
 ghost use Rattle.txn.specs.Freezing.{IsGatheredOf, BookGathers, FreezeAnswers};
 ghost use Rattle.images.specs.Gatherings.{CanGoOn};
 ghost use Rattle.txn.specs.Parts.{at_rest, IsCopy};
@@ -21,8 +21,8 @@ use calls::{Format, Kind, Refusal};
 use catalog::{Four, Measured, Part, Parts, Shelved};
 use images::Gather;
 use records::Coded;
-use shelf::Shelf;
 use std::alloc::Global;
+use steps::Shelf;
 
 impl<B: Parts + Coded> Book<B> {
     /// A book of collections that were opened in a store of the format, with no live transaction
@@ -100,7 +100,7 @@ impl<B: Parts + Coded> Book<B> {
         requires { IsGatheredOf B.collections self.old gather.old }
         ensures answer { BookGathers B.collections self.old gather.old result self.new gather.new }
         ensures along { OnOk result (GoesAlong B.collections self.new.gathering self.new.state.now
-            (position self.new) gather.new) }
+            (lsn self.new) gather.new) }
     {
         let part = next_part(&self.journal, &self.shelves, gather);
         self.journal.gather(part, gather)
@@ -108,10 +108,9 @@ impl<B: Parts + Coded> Book<B> {
 
     /// Ends the gathering of the book, all collections of which are copied: hands over the rest of
     /// the calls, and notes beside them the live transactions with what they asked for, but for
-    /// what a falling one put off. What is gathered holds all of the book then, and is packed by
-    /// itself. It marks the position behind the last record, which the image covers too: no block
-    /// that `cut` hands over from now on holds records from both sides of it. Nothing else is
-    /// changed.
+    /// what a falling one deferred. What is gathered holds all of the book then, and is packed by
+    /// itself. It marks the LSN behind the last record, which the image covers too: no block that
+    /// `cut` hands over from now on holds records from both sides of it. Nothing else is changed.
     ///
     /// It takes time and memory in proportion to what the live transactions asked for.
     ///

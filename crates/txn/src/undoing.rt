@@ -3,7 +3,7 @@ ghost use Rattle.std.specs.Prelude.{◌≡◌, ℕ, ◌<◌, ◌^◌, length};
 ghost use Rattle.std.specs.List.{AllByRecursion, filter};
 ghost use Rattle.undo_log.specs.Entries.{stamped_entry};
 ghost use Rattle.undo_log.specs.Logs.{Lives};
-ghost use Rattle.record_format.specs.Records.{IsNumber};
+ghost use Rattle.records.specs.Records.{IsNumber};
 ghost use Rattle.txn.specs.Undoings.{is_journalled_call, journalled_calls};
 
 use undo_log::{Entry, Handle, Live, Stamped};
@@ -42,6 +42,6 @@ fn is_journalled_call(stamped: &Stamped) -> bool
 {
     match &stamped.entry {
         Entry::Asked(logged) => !logged.call.reads(&logged.reply),
-        Entry::PutOff(_) => false,
+        Entry::Deferred(_) => false,
     }
 }

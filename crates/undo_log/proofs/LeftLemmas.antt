@@ -8,7 +8,7 @@ use Rattle.std.proofs.lemmas.List.Elements.{Contains-append_cases, Contains-appe
 use Rattle.calls.specs.declared.call.Call.{Call}
 use Rattle.calls.specs.declared.reply.Reply.{Reply}
 use Rattle.calls.specs.Rules.{left_by}
-use Rattle.calls.specs.Transactions.{Event, Entry, Asked, PutOff}
+use Rattle.calls.specs.Transactions.{Event, Entry, Asked, Deferred}
 use Rattle.undo_log.specs.declared.logged.Stamped.{Stamped}
 use Rattle.undo_log.specs.Entries.{stamped_entry}
 use Rattle.undo_log.specs.LeftCalls.{IsGoing, GoesTwice, IsLeftAmong, IsLeftBy}
@@ -48,7 +48,7 @@ left_by_it e x at c is h = subst (λ v. IsLeftBy v at c) (sym is) h
 it_leaves : (e : Entry) (at : ℕ) (c : Call) → IsLeftBy e at c →
     (x : Event) × (e ≡ Asked x) × (x.at ≡ at) × Contains (left_by x.call x.reply) c
 it_leaves (Asked x) at c h = (x, refl, h.0, h.1)
-it_leaves (PutOff p d) at c h = absurd h
+it_leaves (Deferred p d) at c h = absurd h
 
 module _ (at : ℕ) (c : Call) where
   -- It is left by the first entry, or by one behind.

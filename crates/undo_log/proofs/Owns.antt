@@ -8,7 +8,7 @@ use Rattle.calls.specs.Transactions as transactions
 use Rattle.calls.specs.Transactions.{own, calls_of}
 use Rattle.undo_log.specs.declared.logged.Logged.{Logged}
 use Rattle.undo_log.specs.declared.logged.Later.{Later}
-use Rattle.undo_log.specs.declared.logged.Entry.TheVariants.{Asked, PutOff}
+use Rattle.undo_log.specs.declared.logged.Entry.TheVariants.{Asked, Deferred}
 use Rattle.undo_log.specs.declared.logged.Stamped.{Stamped}
 use Rattle.undo_log.specs.Entries.{event_of, entry_of, stamped_entry}
 use Rattle.undo_log.specs.Entries.{IsNewestCall, IsNewestPlace}
@@ -149,8 +149,8 @@ module _ (ss : List Stamped) (i : ℕ) (s : Stamped) (is : s ≡ get_or ss i s)
   pub newest_logged : (m : Logged) → s.entry ≡ Asked m → place.3.0 ≡ m
   newest_logged m asked = let at = here in cc
 
-  pub newest_asked : (l : Later) → s.entry ≡ PutOff l → ⊥
-  newest_asked l put_off = let at = here in cc
+  pub newest_asked : (l : Later) → s.entry ≡ Deferred l → ⊥
+  newest_asked l deferred = let at = here in cc
 
 -- The newest of a transaction's own entries, among all
 pub newest_of_all : (n : ℕ) (es : List (ℕ × transactions.Entry)) (ss : List Stamped) (i : ℕ)

@@ -7,7 +7,7 @@ use Rattle.calls.specs.declared.reply.Reply.{Reply}
 use Rattle.calls.specs.Rules.{need_of}
 use Rattle.undo_log.specs.declared.logged.Logged.{Logged}
 use Rattle.undo_log.specs.declared.logged.Entry.{Entry}
-use Rattle.undo_log.specs.declared.logged.Entry.TheVariants.{Asked, PutOff}
+use Rattle.undo_log.specs.declared.logged.Entry.TheVariants.{Asked, Deferred}
 use Rattle.undo_log.specs.declared.logged.Stamped.{Stamped}
 use Rattle.undo_log.specs.declared.logged.Owned.{Owned}
 
@@ -18,7 +18,7 @@ event_of l = record { at = l.at; call = l.call; reply = l.reply }
 -- What was asked for, as transactions are told.
 abbrev pub entry_of : Entry → transactions.Entry
 entry_of (Asked l) = transactions.Asked (event_of l)
-entry_of (PutOff l) = transactions.PutOff l.at l.call
+entry_of (Deferred l) = transactions.Deferred l.at l.call
 
 -- The same of one with a stamp.
 abbrev pub stamped_entry : Stamped → transactions.Entry
@@ -31,14 +31,14 @@ owned_entry o = (o.owner, entry_of o.entry.now)
 -- The collection that it was asked of.
 abbrev pub place_of : transactions.Entry → ℕ
 place_of (transactions.Asked e) = e.at
-place_of (transactions.PutOff at c) = at
+place_of (transactions.Deferred at c) = at
 
--- The need that it has: a call by its reply, one that is put off by the reply Done.
+-- The need that it has: a call by its reply, one that is deferred by the reply Done.
 abbrev pub need_to_take : transactions.Entry → Need
 need_to_take (transactions.Asked e) = need_of e.call e.reply
-need_to_take (transactions.PutOff at c) = need_of c Reply.Done
+need_to_take (transactions.Deferred at c) = need_of c Reply.Done
 
--- It is a call that was asked for, and not one that was put off.
+-- It is a call that was asked for, and not one that was deferred.
 abbrev pub IsCall : Stamped → Type 0
 IsCall s = (l : Logged) × (s.entry ≡ Asked l)
 

@@ -2,12 +2,12 @@
 use Rattle.std.specs.Prelude.{ℕ, ◌≡◌, List, Contains}
 use Rattle.calls.specs.declared.call.Call.{Call}
 use Rattle.calls.specs.Rules.{left_by}
-use Rattle.calls.specs.Transactions.{Event, Entry, Asked, PutOff, own}
+use Rattle.calls.specs.Transactions.{Event, Entry, Asked, Deferred, own}
 
 -- What was asked for leaves the call at the place to the commit.
 abbrev pub IsLeftBy : Entry → (at : ℕ) → Call → Type 0
 IsLeftBy (Asked x) at c = (x.at ≡ at) × Contains (left_by x.call x.reply) c
-IsLeftBy (PutOff place d) at c = ⊥
+IsLeftBy (Deferred place d) at c = ⊥
 
 -- A call among the entries has left this one at the place to the commit.
 abbrev pub IsLeftAmong : List Entry → (at : ℕ) → Call → Type 0

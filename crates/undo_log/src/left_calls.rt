@@ -25,7 +25,7 @@ fn is_left_by(entry: &Entry, at: u8, call: &Call) -> bool
 {
     match entry {
         Entry::Asked(logged) => { logged.at == at && leaves(&logged.call, &logged.reply, call) }
-        Entry::PutOff(_) => false,
+        Entry::Deferred(_) => false,
     }
 }
 

@@ -275,8 +275,8 @@ impl Live {
         self.count += 1;
     }
 
-    /// The newest call of the transaction, those that it put off not counted. It looks at what the
-    /// transaction put off since that call.
+    /// The newest call of the transaction, those that it deferred not counted. It looks at what the
+    /// transaction deferred since that call.
     pub fn newest(&self, handle: Handle) -> Option<&Logged>
         ensures found { IfSome result (λ logged. HasNewestCall handle.number self.now.entries
             (event_of logged.now)) }
@@ -286,12 +286,12 @@ impl Live {
         let place = newest_place(entries)?;
         match &entries[place].entry {
             Entry::Asked(logged) => Some(logged),
-            Entry::PutOff(_) => unreachable!(),
+            Entry::Deferred(_) => unreachable!(),
         }
     }
 
     /// Takes the newest call of the transaction out; the other entries stay in their order. Nothing
-    /// changes where it has no call. What the transaction put off since that call moves.
+    /// changes where it has no call. What the transaction deferred since that call moves.
     pub fn pop(&mut self, handle: Handle) -> Option<Logged>
         ensures found { IfSome result (λ logged. IsNewestCall handle.number self.old.entries
             (event_of logged) self.new.entries) }
@@ -306,7 +306,7 @@ impl Live {
         self.count -= 1;
         match entry {
             Entry::Asked(logged) => Some(logged),
-            Entry::PutOff(_) => unreachable!(),
+            Entry::Deferred(_) => unreachable!(),
         }
     }
 

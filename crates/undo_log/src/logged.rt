@@ -12,18 +12,18 @@ pub struct Logged {
     pub reply: Reply,
 }
 
-/// A call on a collection that is put off to the commit.
+/// A call on a collection that is deferred to the commit.
 #[derive(Drop)]
 pub struct Later {
     pub at: u8,
     pub call: Call,
 }
 
-/// What a transaction asked for: a call, or one that it put off to its commit.
+/// What a transaction asked for: a call, or one that it deferred to its commit.
 #[derive(Drop)]
 pub enum Entry {
     Asked(Logged),
-    PutOff(Later),
+    Deferred(Later),
 }
 
 impl Entry {
@@ -33,18 +33,18 @@ impl Entry {
     {
         match self {
             Entry::Asked(logged) => logged.at,
-            Entry::PutOff(later) => later.at,
+            Entry::Deferred(later) => later.at,
         }
     }
 
-    /// The need that it has: a call by its reply, one that is put off by the reply Done. It takes no
-    /// memory.
+    /// The need that it has: a call by its reply, one that is deferred by the reply Done. It takes
+    /// no memory.
     pub fn need(&self) -> Need
         ensures { result ≡ need_to_take (entry_of self.now) }
     {
         match self {
             Entry::Asked(logged) => logged.call.need(&logged.reply),
-            Entry::PutOff(later) => later.call.need(&Reply::Done),
+            Entry::Deferred(later) => later.call.need(&Reply::Done),
         }
     }
 }
@@ -58,7 +58,7 @@ pub struct Stamped {
 }
 
 impl Stamped {
-    // Whether it is a call, and not one that was put off.
+    // Whether it is a call, and not one that was deferred.
     pub(crate) fn is_call(&self) -> bool
         ensures { IsTrue result ↔ IsCall self.now }
     {

@@ -18,7 +18,7 @@ use Rattle.catalog.specs.Laws.Catalogs.{catalog_laws, making_laws}
 use Rattle.catalog.specs.Places.{IsWithin}
 use Rattle.records.specs.Told.{tells_itself}
 use Rattle.records.proofs.Items.{short_after, short_deferrable}
-use Rattle.machine.proofs.BookLaws.{book_laws}
+use Rattle.steps.proofs.BookLaws.{book_laws}
 use Rattle.images.specs.declared.effect.Effect.{Effect}
 use Rattle.images.specs.Gathers.{GatherState, Repeats, with_gathered}
 use Rattle.images.proofs.Following.{follows_run, follows_gathered, follows_repeated}
@@ -52,48 +52,48 @@ deferred_runs xs at c can = record {
   short = short_deferrable widest c can.1;
 }
 
-module _ (xs : List Collection) (g : GatherState) (later : List Effect) (position : ℕ)
-    (goes : Goes xs g later position) where
-  pub goes_run : (e : Effect) → e.position ≡ position + 1 → position < 2 ^ 61 →
+module _ (xs : List Collection) (g : GatherState) (later : List Effect) (lsn : ℕ)
+    (goes : Goes xs g later lsn) where
+  pub goes_run : (e : Effect) → e.lsn ≡ lsn + 1 → lsn < 2 ^ 61 →
       AnswersAt xs e.collection e.call e.reply → IsShort widest e.call →
-      Goes (after_at xs e.collection e.call e.reply) g (later ++ e ∷ []) e.position
+      Goes (after_at xs e.collection e.call e.reply) g (later ++ e ∷ []) e.lsn
   goes_run e next unworn answered short = record {
     has_run = record {
       few = let few = goes.has_run.few in
           omega (arith, few, length-after_at xs e.collection e.call e.reply);
       short = short_after widest xs e.collection e.call e.reply goes.has_run.short answered short;
       within = subst (IsWithin (after_at xs e.collection e.call e.reply)) (sym next)
-          ((catalog_laws.holds xs).wears position e.collection e.call e.reply
+          ((catalog_laws.holds xs).wears lsn e.collection e.call e.reply
           goes.has_run.within answered);
     };
     unworn = omega (arith, next);
-    follows = follows_run g later xs e position (omega (arith, unworn)) goes.has_run.within
+    follows = follows_run g later xs e lsn (omega (arith, unworn)) goes.has_run.within
         goes.follows
-        (weaker (λ p. p.stamp ≤ position) (λ p. p.stamp < e.position)
+        (weaker (λ p. p.stamp ≤ lsn) (λ p. p.stamp < e.lsn)
         (λ p low. omega (arith, low, next)) g.parts goes.came.stamps) answered;
-    came = came_run g later e position goes.came (omega (arith, next));
+    came = came_run g later e lsn goes.came (omega (arith, next));
     short_calls = each_append (λ x. IsShort widest x.call) later (e ∷ []) goes.short_calls
         (short, tt);
   }
 
   pub goes_gathered : (mark : ℕ) (next : Option Collection) →
       IfSome next (λ x. slice_get xs (length g.parts) ≡ Some x) →
-      Goes xs (with_gathered g mark next position later) [] position
+      Goes xs (with_gathered g mark next lsn later) [] lsn
   goes_gathered mark next there = record {
     has_run = goes.has_run;
     unworn = goes.unworn;
-    follows = follows_gathered g later xs mark next position goes.follows there
-        goes.came.positions;
-    came = came_gathered g later mark next position goes.came;
+    follows = follows_gathered g later xs mark next lsn goes.follows there
+        goes.came.lsns;
+    came = came_gathered g later mark next lsn goes.came;
     short_calls = tt;
   }
 
-  pub goes_repeated : (h : GatherState) → Repeats g h → Goes xs h later position
+  pub goes_repeated : (h : GatherState) → Repeats g h → Goes xs h later lsn
   goes_repeated h repeats = record {
     has_run = goes.has_run;
     unworn = goes.unworn;
     follows = follows_repeated g h later xs repeats goes.follows;
-    came = came_repeated g h later position repeats goes.came;
+    came = came_repeated g h later lsn repeats goes.came;
     short_calls = goes.short_calls;
   }
 

@@ -9,17 +9,17 @@ use Rattle.calls.specs.Rules.{IsShort}
 use Rattle.boosted.specs.Meaning.{HasReply}
 use Rattle.catalog.specs.Meaning.{catalog_meaning}
 use Rattle.catalog.specs.Places.{Belongs, IsWithin}
-use Rattle.record_format.specs.Short.{AreShort}
+use Rattle.records.specs.Short.{AreShort}
 use Rattle.images.specs.declared.effect.Effect.{Effect}
 use Rattle.images.specs.Gathers.{GatherState}
 use Rattle.images.specs.Following.{Follows, CameBy}
 use Rattle.workloads.specs.declared.comparison.gatherings.Gathering.{Gathering}
 
 -- A catalog of so few collections, on which so many calls were run.
-pub record HasRun (xs : List Collection) (most position : ℕ) : Type 0 where
+pub record HasRun (xs : List Collection) (most lsn : ℕ) : Type 0 where
   pub few : length xs ≤ most
   pub short : AreShort widest xs
-  pub within : IsWithin xs position
+  pub within : IsWithin xs lsn
 
 -- The call has a reply at the place, and no long value.
 pub record CanRun (xs : List Collection) (at : ℕ) (c : Call) : Type 0 where
@@ -28,13 +28,13 @@ pub record CanRun (xs : List Collection) (at : ℕ) (c : Call) : Type 0 where
   pub short : IsShort widest c
 
 -- What is gathered goes along with the collections, on which there is room for more calls.
-pub record Goes (xs : List Collection) (g : GatherState) (later : List Effect) (position : ℕ) :
+pub record Goes (xs : List Collection) (g : GatherState) (later : List Effect) (lsn : ℕ) :
     Type 0 where
-  pub has_run : HasRun xs 7 position
-  pub unworn : position ≤ number_end
+  pub has_run : HasRun xs 7 lsn
+  pub unworn : lsn ≤ number_end
   pub follows : Follows g later xs
-  pub came : CameBy g later position
+  pub came : CameBy g later lsn
   pub short_calls : AllByRecursion (λ e. IsShort widest e.call) later
 
 abbrev pub IsGoing : Gathering → Type 0
-IsGoing g = Goes g.catalog g.gather g.effects.items g.position
+IsGoing g = Goes g.catalog g.gather g.effects.items g.lsn

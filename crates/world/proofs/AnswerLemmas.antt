@@ -3,16 +3,17 @@ use Rattle.std.proofs.Common.{◌≡◌, ℕ, Bool, List, Result, Ok, Err}
 use Rattle.std.specs.Prelude.{MatchResult}
 use Rattle.calls.specs.declared.refusal.Refusal.{Refusal}
 use Rattle.checkpoint.specs.declared.turn.Turn.{Turn}
-use Rattle.blocks.specs.declared.block.Block.{Block}
+use Rattle.records.specs.declared.block.Block.{Block}
 use Rattle.disk_model.specs.declared.disk.Disk.{Ghosts}
-use Rattle.world.specs.declared.steps.Step.{Step}
-use Rattle.world.specs.declared.steps.Answer.{Answer}
-use Rattle.world.specs.Pasts.{BookState, CoreStep, IsAnswerOf, alone, outcome}
+use Rattle.world.specs.declared.step.Step.{Step}
+use Rattle.world.specs.declared.step.Answer.{Answer}
+use Rattle.world.specs.Pasts.{CoreStep, IsAnswerOf, alone, outcome}
+use Rattle.txn.specs.Books.{NamedBook}
 use Rattle.world.specs.Moves.{Whole}
 use Rattle.world.specs.OneStep.{TakesStep}
 
-pub core_answered : (s : BookState) (waiting : List Block) (mark : ℕ) (x : Step × Answer)
-    (t : BookState) (waits : List Block) → CoreStep s waiting mark x t waits → IsAnswerOf x.0 x.1
+pub core_answered : (s : NamedBook) (waiting : List Block) (mark : ℕ) (x : Step × Answer)
+    (t : NamedBook) (waits : List Block) → CoreStep s waiting mark x t waits → IsAnswerOf x.0 x.1
 core_answered s waiting mark (Step.Draw, a) t waits step = step.0
 core_answered s waiting mark (Step.Make name kind, a) t waits step = step.0
 core_answered s waiting mark (Step.Enter n, a) t waits step = step.0

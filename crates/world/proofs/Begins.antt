@@ -1,16 +1,17 @@
 -- The past of a world begins with the store that was opened.
 use Rattle.std.proofs.Common.{◌≡◌, ℕ, List, [], ◌++◌, None, Some}
 use Rattle.std.proofs.Common.{refl, sym, ◌∙◌, subst, arith}
-use Rattle.blocks.specs.declared.block.Block.{Block}
-use Rattle.blocks.specs.declared.block.Image.{Image}
+use Rattle.records.specs.declared.block.Block.{Block}
+use Rattle.records.specs.declared.block.Image.{Image}
 use Rattle.images.specs.Gathers.{GatherState, Packs}
 use Rattle.txn.specs.Books.{opened}
 use Rattle.checkpoint.specs.Keepers.{KeeperState, IsFresh}
 use Rattle.checkpoint.proofs.ReceivedLemmas.{received_starts}
 use Rattle.recovery.specs.Openings.{IsOpened, IsReadyStore}
 use Rattle.recovery.proofs.OpenedStores.{are_read, in_use}
-use Rattle.world.specs.Pasts.{BookState}
-use Rattle.world.specs.Worlds.{HasPast, none_gathered, parts_of}
+use Rattle.txn.specs.Books.{NamedBook}
+use Rattle.world.specs.Worlds.{HasPast, parts_of}
+use Rattle.images.specs.Gathers.{nothing_gathered}
 use Rattle.txn.proofs.Handings.{opens}
 use Rattle.catalog.specs.Meaning.{catalog_meaning, catalog_making}
 
@@ -21,19 +22,20 @@ none_packed g image A none packs =
     let frozen : None ≡ Some packs.frozen = sym none ∙ packs.is_frozen in absurd cc
 
 pub past_begins : {D : Type 0} (seen : D → List ℕ) (may_leave : D → List ℕ → Type 0)
-    (bytes : List ℕ) (book : BookState) (keeper : KeeperState D) (transit : List Block) →
+    (bytes : List ℕ) (book : NamedBook) (keeper : KeeperState D) (transit : List Block) →
     IsFresh keeper → transit ≡ [] →
     IsOpened bytes book keeper.area (seen keeper.disk) →
     IsReadyStore seen may_leave bytes book keeper.area keeper.disk →
-    HasPast seen may_leave book.state.now [] (parts_of book none_gathered keeper transit 0)
+    HasPast seen may_leave book.state.now [] (parts_of book nothing_gathered keeper transit 0)
 past_begins seen may_leave bytes book keeper transit fresh none told ready =
     let now = told.undone.now in
     let wear = told.undone.wear in
     let format = told.undone.format in
-    let first : BookState = opened format now told.next wear in
-    subst (λ (b : BookState). HasPast seen may_leave b.state.now []
-    (parts_of b none_gathered keeper transit 0)) (sym told.book_is)
-    (subst (λ q. HasPast seen may_leave now [] (parts_of first none_gathered keeper q 0)) (sym none)
+    let first : NamedBook = opened format now told.next wear in
+    subst (λ (b : NamedBook). HasPast seen may_leave b.state.now []
+    (parts_of b nothing_gathered keeper transit 0)) (sym told.book_is)
+    (subst (λ q. HasPast seen may_leave now [] (parts_of first nothing_gathered keeper q 0))
+    (sym none)
     (record {
       format = format;
       wear = wear;
@@ -49,7 +51,7 @@ past_begins seen may_leave bytes book keeper transit fresh none told ready =
       keeps = received_starts seen may_leave format now wear (told.blocks ++ told.written) keeper
           (are_read bytes book keeper.area (seen keeper.disk) told) fresh
           (in_use seen may_leave bytes book keeper.disk keeper.area told ready);
-      packs = λ image packs. none_packed none_gathered image _ refl packs;
+      packs = λ image packs. none_packed nothing_gathered image _ refl packs;
       marked = sym fresh.unmarked;
       told = omega arith;
     }))

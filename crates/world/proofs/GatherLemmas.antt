@@ -5,59 +5,38 @@ use Rattle.std.proofs.lemmas.List.{append-nil}
 use Rattle.calls.specs.Contents.{Collection}
 use Rattle.calls.specs.declared.refusal.Refusal.{Refusal}
 use Rattle.disk_model.specs.declared.disk.Disk.{Ghosts}
-use Rattle.record_format.specs.Short.{AreShort}
-use Rattle.blocks.specs.declared.block.Image.{Image}
-use Rattle.machine.specs.Machine.{journalled}
-use Rattle.machine.specs.Sound.{IsSound}
-use Rattle.images.specs.Gathers.{GatherState, gathered, Repeats, Packs}
-use Rattle.images.specs.Images.{IsPacked, TellsGathered}
-use Rattle.images.proofs.Repeats.{repeated_none, repeated_same}
+use Rattle.records.specs.Short.{AreShort}
+use Rattle.records.specs.declared.block.Image.{Image}
+use Rattle.steps.specs.Machine.{journalled}
+use Rattle.steps.specs.Sound.{IsSound}
+use Rattle.images.specs.Gathers.{GatherState, Packs}
 use Rattle.images.proofs.Going.{holds_image}
-use Rattle.txn.specs.declared.steps.Action.{Action}
-use Rattle.txn.specs.declared.steps.BookStep.{BookStep}
-use Rattle.txn.specs.Books.{IsKept, position}
+use Rattle.txn.specs.declared.actions.Action.{Action}
+use Rattle.txn.specs.declared.actions.BookStep.{BookStep}
+use Rattle.txn.specs.Books.{IsKept, lsn}
 use Rattle.txn.specs.Freezing.{IsImageOf, FreezeAnswers}
 use Rattle.txn.specs.Histories.{records_by, without_count}
 use Rattle.txn.specs.Handing.{HasHanded}
 use Rattle.txn.proofs.Handings.{records_by-push, gathers_on, frozen_not, freezes_gathered}
 use Rattle.txn.proofs.Handings.{freezes_nothing, imaged_now, packs_image}
-use Rattle.checkpoint.specs.ImageAnswers.{HoldAnswers, BeginAnswers}
-use Rattle.checkpoint.specs.declared.stage.Ending.{Ending}
 use Rattle.checkpoint.specs.Keepers.{KeeperState}
 use Rattle.checkpoint.specs.Stored.{StandIn}
 use Rattle.checkpoint.specs.Keeping.{BegunImage, AreImagesFor, HasReceived, HoldKeeps, held_with}
 use Rattle.checkpoint.specs.Keeping.{BeginKeeps, begun_with}
-use Rattle.world.specs.declared.steps.Step.{Step}
-use Rattle.world.specs.declared.steps.Answer.{Answer}
-use Rattle.world.specs.Pasts.{BookState, Past, action_of, of_no_client, outcome, alone, told}
-use Rattle.world.specs.Worlds.{Parts, HasPast, StandsForBook, none_gathered}
-use Rattle.world.specs.Moves.{if_held}
+use Rattle.world.specs.declared.step.Step.{Step}
+use Rattle.world.specs.declared.step.Answer.{Answer}
+use Rattle.world.specs.Pasts.{Past, action_of, of_no_client, outcome, alone, told}
+use Rattle.txn.specs.Books.{NamedBook}
+use Rattle.world.specs.Worlds.{Parts, HasPast, StandsForBook}
+use Rattle.images.specs.Gathers.{nothing_gathered}
+use Rattle.engine.specs.Gatherings.{if_held}
 use Rattle.world.proofs.Begins.{none_packed}
 use Rattle.world.proofs.PastLemmas.{are_push, are_still, greatest_told-push}
 use Rattle.world.proofs.StepLemmas.{alone_step, moments_then, stands_still}
+use Rattle.engine.proofs.Packed.{repeats_none}
 use Rattle.world.proofs.KeeperSteps.{Yielded}
-use Rattle.world.proofs.FreezeLemmas as freezes
+use Rattle.recovery.proofs.FrozenBooks as freezes
 use Rattle.catalog.specs.Meaning.{catalog_meaning, catalog_making}
-
--- ---- what is packed
-
-pub repeats_none : (g : GatherState) → Repeats g g
-repeats_none g =
-    record { repeated = repeated_none g.parts g.effects; mark = refl; frozen = refl }
-
--- What is packed behind a repetition could be packed before.
-pub packed_before : (g h : GatherState) (image : Image) → Repeats g h → Packs h image →
-    Packs g image
-packed_before g h image repeats packs = record {
-  frozen = packs.frozen;
-  is_frozen = sym repeats.frozen ∙ packs.is_frozen;
-  packed = subst (λ ps. IsPacked (TellsGathered packs.frozen.marks.format packs.frozen.marks.next
-      packs.frozen.marks.wear
-      (gathered ps) packs.frozen.live) image.blocks.items)
-      (repeated_same g.parts h.parts g.effects h.effects repeats.repeated) packs.packed;
-  end = packs.end;
-  place = packs.place;
-}
 
 -- ---- what the steps are to the book
 
@@ -109,7 +88,7 @@ module _ {D : Type 0} (g : Ghosts D) (start : List Collection) (past : Past) (w 
   module _ (x : Step × Answer) (action : Action) (is : action_of x.0 x.1 ≡ Some action)
       (plain : without_count action ≡ action) (quiet : told x.0 x.1 ≡ 0)
       (all : records_by (had.steps ++ alone_step action ∷ []) ≡ records_by had.steps) where
-    past_still : (t : BookState) (h : GatherState) (l : KeeperState D) (freezes : List ℕ) →
+    past_still : (t : NamedBook) (h : GatherState) (l : KeeperState D) (freezes : List ℕ) →
         t.state ≡ w.book.state →
         HasHanded catalog_meaning catalog_making (λ v. v) had.format start had.wear
         (had.steps ++ alone_step action ∷ []) t (had.received ++ w.transit) had.groups freezes
@@ -145,7 +124,7 @@ module _ {D : Type 0} (g : Ghosts D) (start : List Collection) (past : Past) (w 
     }
 
   -- a collection is copied, or that is refused
-  pub gather_past : (r : Result Bool Refusal) (t : BookState) (h : GatherState) →
+  pub gather_past : (r : Result Bool Refusal) (t : NamedBook) (h : GatherState) →
       t ≡ record w.book { gathering = t.gathering } →
       ((image : Image) → Packs h image → Packs w.gather image) →
       HasPast g.seen g.may_leave start
@@ -155,7 +134,7 @@ module _ {D : Type 0} (g : Ghosts D) (start : List Collection) (past : Past) (w 
       let step = alone_step (Action.Gather r) in
       let all : records_by (had.steps ++ step ∷ []) ≡ records_by had.steps =
       records_by-push had.steps step ∙ append-nil (records_by had.steps) in
-      let same = ap (λ (v : BookState). v.state) is in
+      let same = ap (λ (v : NamedBook). v.state) is in
       past_still (Step.Gather, outcome Answer.Gathered r) (Action.Gather r) (gather_action r) refl
       (gather_tells r) all t h w.keeper had.freezes same
       (gathers_on catalog_meaning catalog_making (λ v. v) had.format start had.wear had.steps w.book
@@ -168,7 +147,7 @@ module _ {D : Type 0} (g : Ghosts D) (start : List Collection) (past : Past) (w 
       refl
 
   -- where the book refuses a freeze, all is as it was
-  pub unfrozen : (e : Refusal) (t : BookState) (m h : GatherState) →
+  pub unfrozen : (e : Refusal) (t : NamedBook) (m h : GatherState) →
       FreezeAnswers (λ v. v) w.book w.gather (Err e) t m →
       ((image : Image) → Packs h image → Packs w.gather image) →
       HasPast g.seen g.may_leave start (past ++ (Step.Freeze, Answer.Refused e) ∷ [])
@@ -177,7 +156,7 @@ module _ {D : Type 0} (g : Ghosts D) (start : List Collection) (past : Past) (w 
       let step = alone_step (Action.Freeze (Err e)) in
       let all : records_by (had.steps ++ step ∷ []) ≡ records_by had.steps =
       records_by-push had.steps step ∙ append-nil (records_by had.steps) in
-      let same = ap (λ (v : BookState). v.state)
+      let same = ap (λ (v : NamedBook). v.state)
       (frozen_not (λ v. v) w.book t w.gather m e froze) in
       past_still (Step.Freeze, Answer.Refused e) (Action.Freeze (Err e)) refl refl refl all t h
       w.keeper had.freezes same
@@ -193,18 +172,18 @@ module _ {D : Type 0} (g : Ghosts D) (start : List Collection) (past : Past) (w 
 
   -- Where it is frozen, each image that is packed stands for all records, and the end is held, or
   -- refused.
-  module _ (t : BookState) (m : GatherState)
+  module _ (t : NamedBook) (m : GatherState)
       (froze : FreezeAnswers (λ v. v) w.book w.gather (Ok tt) t m)
       (kept : IsKept catalog_meaning catalog_making AreShort
       (IsSound catalog_meaning catalog_making) w.book) where
     image_of : (image : Image) → Packs m image → IsImageOf (λ v. v) w.book image
     image_of image packs =
-        let is = holds_image (λ v. v) w.book.next w.book.places (position w.book) w.book.state m m
+        let is = holds_image (λ v. v) w.book.next w.book.places (lsn w.book) w.book.state m m
         image froze.1 (repeats_none m) packs in
         record { packed = is.0; end = is.1; place = is.2 }
 
     same_state : t.state ≡ w.book.state
-    same_state = ap (λ (v : BookState). v.state) froze.2
+    same_state = ap (λ (v : NamedBook). v.state) froze.2
 
     module _ (r : Result (Unit {0}) Refusal) where
       abbrev step : BookStep
@@ -244,7 +223,7 @@ module _ {D : Type 0} (g : Ghosts D) (start : List Collection) (past : Past) (w 
 
       frozen_handed : HasHanded catalog_meaning catalog_making (λ v. v) had.format start had.wear
           (had.steps ++ step ∷ []) t (had.received ++ w.transit) had.groups
-          (position w.book ∷ had.freezes) had.images
+          (lsn w.book ∷ had.freezes) had.images
       frozen_handed = freezes_gathered catalog_meaning catalog_making (λ v. v) had.format start
           had.wear
           had.steps w.book t (had.received ++ w.transit) had.groups had.freezes had.images
@@ -253,19 +232,19 @@ module _ {D : Type 0} (g : Ghosts D) (start : List Collection) (past : Past) (w 
     -- the end is held, or what was gathered is given up
     held_past : (l : KeeperState D) (r : Result (Unit {0}) Refusal) → w.keeper.mark ≡ l.mark →
         HasReceived g.seen g.may_leave had.format start had.wear (records_by had.steps)
-        (journalled w.book.state) (held_with (position w.book) had.freezes r) had.begun had.received
+        (journalled w.book.state) (held_with (lsn w.book) had.freezes r) had.begun had.received
         l →
         HasPast g.seen g.may_leave start
         (past ++ (Step.Freeze, outcome (alone Answer.Frozen) r) ∷ [])
         (record w { book = t; gather = if_held r m; keeper = l })
     held_past l (Ok done) mark has =
         past_still (Step.Freeze, Answer.Frozen) (Action.Freeze (Ok done)) (freeze_action (Ok done))
-        refl refl (all_records (Ok done)) t m l (position w.book ∷ had.freezes) same_state
+        refl refl (all_records (Ok done)) t m l (lsn w.book ∷ had.freezes) same_state
         (frozen_handed (Ok done)) has (frozen_stands (Ok done)) mark
     held_past l (Err e) mark has =
         let on = frozen_handed (Err e) in
         past_still (Step.Freeze, Answer.Refused e) (Action.Freeze (Err e)) refl refl refl
-        (all_records (Err e)) t none_gathered l had.freezes same_state (record {
+        (all_records (Err e)) t nothing_gathered l had.freezes same_state (record {
           legal = on.legal;
           good = on.good;
           carried = on.carried;
@@ -274,10 +253,10 @@ module _ {D : Type 0} (g : Ghosts D) (start : List Collection) (past : Past) (w 
           place = on.place;
           are_images = on.are_images;
           between = on.between.1;
-        }) has (λ image packs. none_packed none_gathered image _ refl packs) mark
+        }) has (λ image packs. none_packed nothing_gathered image _ refl packs) mark
 
     pub freeze_past : (l : KeeperState D) (r : Result (Unit {0}) Refusal) →
-        HoldKeeps g (position w.book) r w.keeper l → w.keeper.mark ≡ l.mark →
+        HoldKeeps g (lsn w.book) r w.keeper l → w.keeper.mark ≡ l.mark →
         HasPast g.seen g.may_leave start
         (past ++ (Step.Freeze, outcome (alone Answer.Frozen) r) ∷ [])
         (record w { book = t; gather = if_held r m; keeper = l })
@@ -315,7 +294,7 @@ module _ {D : Type 0} (g : Ghosts D) (start : List Collection) (past : Past) (w 
         (journalled w.book.state) had.freezes begun had.received l → w.keeper.mark ≡ l.mark →
         HasPast g.seen g.may_leave start
         (past ++ (Step.Pack, outcome (alone Answer.Packed) r) ∷ [])
-        (record w { gather = none_gathered; keeper = l })
+        (record w { gather = nothing_gathered; keeper = l })
     begun_past l r images begun for handed keeps mark = record {
       format = had.format;
       wear = had.wear;
@@ -329,7 +308,7 @@ module _ {D : Type 0} (g : Ghosts D) (start : List Collection) (past : Past) (w 
       begun = begun;
       are_begun = for;
       keeps = keeps;
-      packs = λ other packed. none_packed none_gathered other _ refl packed;
+      packs = λ other packed. none_packed nothing_gathered other _ refl packed;
       marked = had.marked ∙ mark;
       told = greatest_told-push past Step.Pack (outcome (alone Answer.Packed) r) w.mark had.told
           (omega (arith, pack_tells r));
@@ -340,7 +319,7 @@ module _ {D : Type 0} (g : Ghosts D) (start : List Collection) (past : Past) (w 
         (journalled w.book.state) had.freezes (begun_with stands.begun had.begun r) had.received l →
         HasPast g.seen g.may_leave start
         (past ++ (Step.Pack, outcome (alone Answer.Packed) r) ∷ [])
-        (record w { gather = none_gathered; keeper = l })
+        (record w { gather = nothing_gathered; keeper = l })
     any_begun l (Ok done) mark has =
         begun_past l (Ok done) (image ∷ had.images) (stands.begun ∷ had.begun)
         (stands.is_for, had.are_begun)
@@ -355,7 +334,7 @@ module _ {D : Type 0} (g : Ghosts D) (start : List Collection) (past : Past) (w 
         BeginKeeps g image r w.keeper l → w.keeper.mark ≡ l.mark →
         HasPast g.seen g.may_leave start
         (past ++ (Step.Pack, outcome (alone Answer.Packed) r) ∷ [])
-        (record w { gather = none_gathered; keeper = l })
+        (record w { gather = nothing_gathered; keeper = l })
         × Yielded g start past w had (Step.Pack, outcome (alone Answer.Packed) r) l
     pack_past l r keeps mark =
         let on = keeps had.format start had.wear (records_by had.steps) (journalled w.book.state)
@@ -365,33 +344,3 @@ module _ {D : Type 0} (g : Ghosts D) (start : List Collection) (past : Past) (w 
           moments_then g.seen g.may_leave start past w had g.moment g.left_since l.disk
               (Step.Pack, outcome (alone Answer.Packed) r) on.1,
         )
-
--- ---- disk and mark
-
--- where an end is held, or refused, disk and mark stay
-pub held_same : {D : Type 0} (k : KeeperState D) (e : Ending) (l : KeeperState D)
-    (r : Result (Unit {0}) Refusal) → HoldAnswers k e l r → (l.disk ≡ k.disk) × (k.mark ≡ l.mark)
-held_same {D = D} k e l (Ok done) held = (
-  ap (λ (x : KeeperState D). x.disk) held.2,
-  sym (ap (λ (x : KeeperState D). x.mark) held.2),
-)
-held_same {D = D} k e l (Err Refusal.Failed) held =
-    (ap (λ (x : KeeperState D). x.disk) held.1, sym (ap (λ (x : KeeperState D). x.mark) held.1))
-held_same {D = D} k e l (Err Refusal.Imaging) held =
-    (ap (λ (x : KeeperState D). x.disk) held.2, sym (ap (λ (x : KeeperState D). x.mark) held.2))
-held_same {D = D} k e l (Err r) held = absurd held
-
--- and so where an image is begun, or refused
-pub begun_same : {D : Type 0} (k : KeeperState D) (image : Image) (behind : ℕ)
-    (l : KeeperState D) (r : Result (Unit {0}) Refusal) → BeginAnswers k image behind l r →
-    (l.disk ≡ k.disk) × (k.mark ≡ l.mark)
-begun_same {D = D} k image behind l (Ok done) begun = (
-  ap (λ (x : KeeperState D). x.disk) begun.2.1.2,
-  sym (ap (λ (x : KeeperState D). x.mark) begun.2.1.2),
-)
-begun_same {D = D} k image behind l (Err Refusal.Failed) begun =
-    (ap (λ (x : KeeperState D). x.disk) begun.1, sym (ap (λ (x : KeeperState D). x.mark) begun.1))
-begun_same {D = D} k image behind l (Err Refusal.Full) begun =
-    (ap (λ (x : KeeperState D). x.disk) begun.3, sym (ap (λ (x : KeeperState D). x.mark) begun.3))
-begun_same {D = D} k image behind l (Err e) begun =
-    (ap (λ (x : KeeperState D). x.disk) begun.2, sym (ap (λ (x : KeeperState D). x.mark) begun.2))

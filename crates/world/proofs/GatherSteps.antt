@@ -6,28 +6,33 @@ use Rattle.std.proofs.Common.{◌⊎◌, inl, inr, ⊎_elim, Option, Result, Ok,
 use Rattle.std.specs.Option.{option_map}
 use Rattle.calls.specs.declared.refusal.Refusal.{Refusal}
 use Rattle.disk_model.specs.declared.disk.Disk.{Ghosts}
-use Rattle.record_format.specs.Short.{AreShort}
-use Rattle.blocks.specs.declared.block.Image.{Image}
-use Rattle.machine.specs.Sound.{IsSound}
-use Rattle.images.specs.declared.gather.Marks.{Marks}
+use Rattle.records.specs.Short.{AreShort}
+use Rattle.records.specs.declared.block.Image.{Image}
+use Rattle.steps.specs.Sound.{IsSound}
+use Rattle.images.specs.declared.gather.ImageHead.{ImageHead}
 use Rattle.images.specs.Gathers.{GatherState, FrozenState, Repeats, Packs}
-use Rattle.txn.specs.Books.{IsKept, position}
+use Rattle.txn.specs.Books.{IsKept, lsn}
 use Rattle.txn.specs.Freezing.{BookGathers, FreezeAnswers}
 use Rattle.checkpoint.specs.ImageAnswers.{HoldAnswers, BeginAnswers}
 use Rattle.checkpoint.specs.Keepers.{KeeperState}
 use Rattle.checkpoint.specs.Keeping.{HoldKeeps, BeginKeeps}
-use Rattle.world.specs.declared.steps.Step.{Step}
-use Rattle.world.specs.declared.steps.Answer.{Answer}
-use Rattle.world.specs.Pasts.{BookState, outcome, alone}
-use Rattle.world.specs.Worlds.{IsOfBook, none_gathered}
+use Rattle.world.specs.declared.step.Step.{Step}
+use Rattle.world.specs.declared.step.Answer.{Answer}
+use Rattle.world.specs.Pasts.{outcome, alone}
+use Rattle.txn.specs.Books.{NamedBook}
+use Rattle.engine.specs.Gatherings.{IsOfBook, IsHeld, HoldsOn, if_held, unless_outrun}
+use Rattle.images.specs.Gathers.{nothing_gathered}
 use Rattle.txn.specs.Undoings.{undo_count}
-use Rattle.world.specs.Moves.{Whole, if_held, unless_outrun, undoing_len, frozen_behind}
+use Rattle.world.specs.Moves.{Whole, undoing_len, frozen_behind}
 use Rattle.world.specs.OneStep.{parts, TakesStep}
 use Rattle.world.proofs.AnswerLemmas.{gather_answered, freeze_answered, pack_answered}
 use Rattle.world.proofs.Begins.{none_packed}
 use Rattle.world.proofs.StepLemmas.{passes, quiet}
-use Rattle.world.proofs.GatherLemmas.{packed_before, regathered, gather_past, unfrozen, freeze_past}
-use Rattle.world.proofs.GatherLemmas.{pack_past, held_same, begun_same}
+use Rattle.world.proofs.GatherLemmas.{regathered, gather_past, unfrozen, freeze_past}
+use Rattle.engine.proofs.OfBook.{of_unfrozen}
+use Rattle.engine.proofs.Packed.{packed_before, one_head}
+use Rattle.world.proofs.GatherLemmas.{pack_past}
+use Rattle.engine.proofs.KeeperLemmas.{held_same, begun_same}
 use Rattle.catalog.specs.Meaning.{catalog_meaning, catalog_making}
 
 -- whether something is frozen
@@ -40,7 +45,7 @@ some_frozen None is none = absurd cc
 some_frozen (Some f) is none = absurd cc
 
 -- What goes on is not frozen, so nothing is packed of it.
-gathered_before : (b c : BookState) (g m h : GatherState) (more : Bool) →
+gathered_before : (b c : NamedBook) (g m h : GatherState) (more : Bool) →
     BookGathers (λ v. v) b g (Ok more) c m → Repeats m h → IsOfBook b g → (image : Image) →
     Packs h image → Packs g image
 gathered_before b c g m h more gathers repeats of image packs =
@@ -52,7 +57,7 @@ gathered_before b c g m h more gathers repeats of image packs =
 -- What is given up is packed no more.
 unless_before : (frozen : Option FrozenState) (e : Refusal) (g : GatherState) (image : Image) →
     Packs (unless_outrun frozen e g) image → Packs g image
-unless_before None Refusal.Outrun g image packs = none_packed none_gathered image _ refl packs
+unless_before None Refusal.Outrun g image packs = none_packed nothing_gathered image _ refl packs
 unless_before None e g image packs = packs
 unless_before (Some frozen) e g image packs = packs
 
@@ -62,7 +67,7 @@ module _ {D : Type 0} (g : Ghosts D) (w : Whole D)
   -- ---- a collection is copied
 
   -- and what was run is repeated, or there is no memory for that
-  pub gather_taken : (more : Bool) (a : Answer) (r : Result Bool Refusal) (t : BookState)
+  pub gather_taken : (more : Bool) (a : Answer) (r : Result Bool Refusal) (t : NamedBook)
       (m h : GatherState) → a ≡ outcome Answer.Gathered r → IsOfBook w.book w.gather →
       BookGathers (λ v. v) w.book w.gather (Ok more) t m → Repeats m h →
       ((a ≡ Answer.Gathered more) × (h.effects ≡ []))
@@ -94,7 +99,7 @@ module _ {D : Type 0} (g : Ghosts D) (w : Whole D)
     honest = λ h. h;
   }
 
-  pub gather_refused : (e : Refusal) (t : BookState) (m h : GatherState) → m ≡ w.gather →
+  pub gather_refused : (e : Refusal) (t : NamedBook) (m h : GatherState) → m ≡ w.gather →
       BookGathers (λ v. v) w.book w.gather (Err e) t m → h ≡ unless_outrun m.frozen e m →
       TakesStep g w (Step.Gather, Answer.Refused e) (record w { book = t; gather = h })
   gather_refused e t m h same gathers given = record {
@@ -122,7 +127,7 @@ module _ {D : Type 0} (g : Ghosts D) (w : Whole D)
 
   -- ---- the book is frozen
 
-  pub freeze_refused : (e : Refusal) (t : BookState) (m h : GatherState) → m ≡ w.gather →
+  pub freeze_refused : (e : Refusal) (t : NamedBook) (m h : GatherState) → m ≡ w.gather →
       FreezeAnswers (λ v. v) w.book w.gather (Err e) t m → h ≡ unless_outrun m.frozen e m →
       TakesStep g w (Step.Freeze, Answer.Refused e) (record w { book = t; gather = h })
   freeze_refused e t m h same froze given = record {
@@ -138,7 +143,9 @@ module _ {D : Type 0} (g : Ghosts D) (w : Whole D)
       frozen = Err e;
       taken = m;
       froze = froze;
-      held = (refl, refl, given);
+      held = Err e;
+      holds = (refl, refl, given);
+      answer = refl;
       transit = refl;
       mark = refl;
       next = refl;
@@ -149,22 +156,22 @@ module _ {D : Type 0} (g : Ghosts D) (w : Whole D)
   }
 
   -- and the end held, or refused
-  module _ (t : BookState) (m : GatherState)
+  module _ (t : NamedBook) (m : GatherState)
       (froze : FreezeAnswers (λ v. v) w.book w.gather (Ok tt) t m)
       (kept : IsKept catalog_meaning catalog_making AreShort
-      (IsSound catalog_meaning catalog_making) w.book) (marks : Marks)
-      (are : Some marks ≡ option_map (λ (f : FrozenState). f.marks) m.frozen) where
-    marks_are : marks ≡ froze.1.frozen.marks
-    marks_are =
-        let same : Some marks ≡ Some froze.1.frozen.marks =
-        are ∙ ap (option_map (λ (f : FrozenState). f.marks)) froze.1.is_frozen in cc
+      (IsSound catalog_meaning catalog_making) w.book) (image_head : ImageHead)
+      (are : Some image_head ≡ option_map (λ (f : FrozenState). f.image_head) m.frozen) where
+    head_is : image_head ≡ froze.1.frozen.image_head
+    head_is =
+        let same : Some image_head ≡ Some froze.1.frozen.image_head =
+        are ∙ ap (option_map (λ (f : FrozenState). f.image_head)) froze.1.is_frozen in cc
 
-    end_is : marks.end ≡ position w.book
-    end_is = ap (λ (v : Marks). v.end) (marks_are ∙ froze.1.marks)
+    end_is : image_head.end ≡ lsn w.book
+    end_is = ap (λ (v : ImageHead). v.end) (head_is ∙ froze.1.image_head)
 
     pub freeze_taken : (l : KeeperState D) (r : Result (Unit {0}) Refusal) →
-        HoldAnswers w.keeper (record { end = marks.end; place = marks.place }) l r →
-        HoldKeeps g marks.end r w.keeper l →
+        HoldAnswers w.keeper (record { end = image_head.end; place = image_head.place }) l r →
+        HoldKeeps g image_head.end r w.keeper l →
         TakesStep g w (Step.Freeze, outcome (alone Answer.Frozen) r)
         (record w {
           book = t;
@@ -173,8 +180,9 @@ module _ {D : Type 0} (g : Ghosts D) (w : Whole D)
           frozen = frozen_behind (outcome (alone Answer.Frozen) r) (undo_count t.state) w.frozen;
         })
     freeze_taken l r held keeps =
-        let same = held_same w.keeper (record { end = marks.end; place = marks.place }) l r held in
-        let there : HoldKeeps g (position w.book) r w.keeper l =
+        let same = held_same w.keeper (record { end = image_head.end; place = image_head.place }) l
+        r held in
+        let there : HoldKeeps g (lsn w.book) r w.keeper l =
         subst (λ n. HoldKeeps g n r w.keeper l) end_is keeps in
         record {
           past = λ start past had.
@@ -188,17 +196,9 @@ module _ {D : Type 0} (g : Ghosts D) (w : Whole D)
             frozen = Ok tt;
             taken = m;
             froze = froze;
-            held = (
-              r,
-              (
-                froze.1.frozen,
-                froze.1.is_frozen,
-                subst (λ (v : Marks). HoldAnswers w.keeper
-                    (record { end = v.end; place = v.place }) l r) marks_are held,
-              ),
-              refl,
-              refl,
-            );
+            held = r;
+            holds = ((image_head, are, held), refl);
+            answer = refl;
             transit = refl;
             mark = refl;
             next = refl;
@@ -207,6 +207,28 @@ module _ {D : Type 0} (g : Ghosts D) (w : Whole D)
           };
           honest = λ h. subst g.is_honest same.0 h;
         }
+
+  -- The book was asked to freeze, and then the keeper to hold the end of the image.
+  pub freeze_answers : (frozen held : Result (Unit {0}) Refusal) (t : NamedBook)
+      (m h : GatherState) (l : KeeperState D) →
+      FreezeAnswers (λ v. v) w.book w.gather frozen t m →
+      IsKept catalog_meaning catalog_making AreShort (IsSound catalog_meaning catalog_making)
+      w.book → IsHeld frozen w.keeper m held l h → HoldsOn g frozen w.keeper m held l →
+      TakesStep g w (Step.Freeze, outcome (alone Answer.Frozen) held)
+      (record w {
+        book = t;
+        gather = h;
+        keeper = l;
+        frozen = frozen_behind (outcome (alone Answer.Frozen) held) (undo_count t.state) w.frozen;
+      })
+  freeze_answers (Ok done) held t m h l froze kept holds keeps =
+      rw holds.1
+      (freeze_taken t m froze kept holds.0.0 holds.0.1 l held holds.0.2
+      (subst (λ (v : ImageHead). HoldKeeps g v.end held w.keeper l)
+      (one_head m keeps.0 holds.0.0 keeps.1 holds.0.1) keeps.2))
+  freeze_answers (Err e) held t m h l froze kept holds keeps =
+      rw (holds.0, holds.1)
+      (freeze_refused e t m h (of_unfrozen w.book t w.gather m e froze).1 froze holds.2)
 
   -- ---- the image is packed
 
@@ -259,7 +281,7 @@ module _ {D : Type 0} (g : Ghosts D) (w : Whole D)
       Packs w.gather image → BeginAnswers w.keeper image (undoing_len w.frozen) l r →
       BeginKeeps g image r w.keeper l →
       TakesStep g w (Step.Pack, outcome (alone Answer.Packed) r)
-      (record w { gather = none_gathered; keeper = l })
+      (record w { gather = nothing_gathered; keeper = l })
   pack_taken image l r packs begun keeps =
       let same = begun_same w.keeper image (undoing_len w.frozen) l r begun in
       record {

@@ -1,84 +1,37 @@
 -- Steps of the keeper: the past of the world goes on, at each moment of them.
-use Rattle.std.proofs.Common.{◌≡◌, inl, inr, ⊎_elim, ℕ, ◌+◌, ◌≤◌, Bool, Option, Some}
-use Rattle.std.proofs.Common.{None, Result, Ok, Err, List, [], ◌∷◌, ◌++◌, length, take, refl}
+use Rattle.std.proofs.Common.{◌≡◌, ℕ, ◌+◌, ◌≤◌, Bool}
+use Rattle.std.proofs.Common.{None, Result, Ok, Err, List, [], ◌∷◌, ◌++◌, take, refl}
 use Rattle.std.proofs.Common.{sym}
 use Rattle.std.proofs.Common.{◌∙◌, ap, subst, arith, append_assoc}
-use Rattle.std.specs.List.{AllByRecursion}
-use Rattle.std.proofs.lemmas.List.Elements.{All-nil, All-cons}
 use mathlib.Core.List.{IsPrefix}
 use Rattle.calls.specs.Contents.{Collection}
 use Rattle.calls.specs.declared.refusal.Refusal.{Refusal}
 use Rattle.disk_model.specs.Disk.{LeavesOnly}
 use Rattle.disk_model.specs.declared.disk.Disk.{Ghosts}
-use Rattle.record_format.specs.declared.record.Record.{Record}
-use Rattle.blocks.specs.declared.block.Block.{Block}
-use Rattle.blocks.specs.Carried.{Carries}
-use Rattle.machine.specs.Machine.{journalled}
-use Rattle.repetition.specs.Journals.{records_in}
-use Rattle.txn.specs.Handing.{IsBetween, HasHanded}
+use Rattle.records.specs.declared.block.Block.{Block}
+use Rattle.records.specs.Carried.{Carries}
+use Rattle.steps.specs.Machine.{journalled}
+use Rattle.replay.specs.Journals.{records_in}
+use Rattle.txn.specs.Handing.{HasHanded}
 use Rattle.txn.specs.Histories.{records_by}
 use Rattle.checkpoint.specs.declared.turn.Turn.{Turn}
 use Rattle.checkpoint.specs.Crash.{Yields}
-use Rattle.checkpoint.specs.ImageAnswers.{PieceAnswers, FlipAnswers}
-use Rattle.checkpoint.specs.Keepers.{KeeperState, IsBrought, TurnAnswers}
-use Rattle.checkpoint.specs.Keeping.{IsApart, Uncrossed, TurnKeeps, ImageKeeps}
-use Rattle.blocks.proofs.Carrying.{joined-append, carries_parts}
-use Rattle.checkpoint.proofs.GroupLemmas.{apart_append, apart_before, apart_behind}
+use Rattle.checkpoint.specs.Keepers.{KeeperState}
+use Rattle.checkpoint.specs.Keeping.{Uncrossed, TurnKeeps, ImageKeeps}
+use Rattle.records.proofs.Carrying.{joined-append, carries_parts}
 use Rattle.checkpoint.proofs.GroupLemmas.{uncrossed_front}
-use Rattle.world.specs.declared.steps.Step.{Step}
-use Rattle.world.specs.declared.steps.Answer.{Answer}
-use Rattle.world.specs.Pasts.{Past, BookState, action_of, committed_in, told, outcome, mark_behind}
-use Rattle.world.specs.Pasts.{mark_flipped}
+use Rattle.world.specs.declared.step.Step.{Step}
+use Rattle.world.specs.declared.step.Answer.{Answer}
+use Rattle.world.specs.Pasts.{Past, action_of, committed_in, told, outcome}
+use Rattle.engine.specs.Marks.{mark_behind}
+use Rattle.engine.specs.Marks.{mark_flipped}
 use Rattle.world.specs.Worlds.{Parts, HasPast}
 use Rattle.world.proofs.PastLemmas.{are_still, greatest_told-push}
 use Rattle.world.proofs.StepLemmas.{moments_then}
+use Rattle.engine.proofs.KeeperLemmas.{none_crossed}
 use Rattle.catalog.specs.Meaning.{catalog_meaning, catalog_making}
 
--- ---- what a turn answers
-
-module _ (holds : Option Block) (receives : List Block → Type 0) (was_empty : Type 0)
-    (failed fails : Bool) (m mark : ℕ) (is_covered is_past is_full : Block → Type 0)
-    (is_same is_risen : Type 0) where
-  abbrev Turns : Result Turn Refusal → Option Block → Type 0
-  Turns r held = TurnAnswers holds receives was_empty failed m is_covered is_past is_full is_same
-      is_risen r held mark fails
-
-  pub mark_rises : (r : Result Turn Refusal) (held : Option Block) → Turns r held → m ≤ mark
-  mark_rises (Ok Turn.Idle) held a = omega (arith, a.6)
-  mark_rises (Ok (Turn.Kept place)) held a =
-      ⊎_elim (λ x. omega (arith, x.2, x.3)) (λ x. omega (arith, x.2.0, x.2.1)) a.1.2
-  mark_rises (Ok Turn.Held) held a = omega (arith, a.1.2.4)
-  mark_rises (Err Refusal.Failed) held a = omega (arith, a.4)
-  mark_rises (Err Refusal.Full) held a = omega (arith, a.1.2.2.3)
-  mark_rises (Err Refusal.Fault) held a = omega (arith, a.1.2.2.2)
-  mark_rises (Err e) held a = absurd a.1.2.2
-
-  -- the keeper's mark is the one that its turns told
-  pub mark_is : (r : Result Turn Refusal) (held : Option Block) → Turns r held →
-      mark_behind m r ≡ mark
-  mark_is (Ok Turn.Idle) held a = sym a.6
-  mark_is (Ok (Turn.Kept place)) held a = ⊎_elim (λ x. sym x.3) (λ x. sym x.2.1) a.1.2
-  mark_is (Ok Turn.Held) held a = sym a.1.2.4
-  mark_is (Err Refusal.Failed) held a = sym a.4
-  mark_is (Err Refusal.Full) held a = sym a.1.2.2.3
-  mark_is (Err Refusal.Fault) held a = sym a.1.2.2.2
-  mark_is (Err e) held a = absurd a.1.2.2
-
-  brought : (h : Option Block) (b : Block) → IsBrought h receives b →
-      (bs : List Block) × receives bs
-  brought None b is = (b ∷ [], is)
-  brought (Some h) b is = ([], is.1)
-
-  -- it received some blocks, or none
-  pub some_received : (r : Result Turn Refusal) (held : Option Block) → Turns r held →
-      (bs : List Block) × receives bs
-  some_received (Ok Turn.Idle) held a = ([], a.2)
-  some_received (Ok (Turn.Kept place)) held a = brought holds a.1.0 a.1.1
-  some_received (Ok Turn.Held) held a = brought holds a.1.0 a.1.1
-  some_received (Err Refusal.Failed) held a = ([], a.1)
-  some_received (Err Refusal.Full) held a = brought holds a.1.0 a.1.1
-  some_received (Err Refusal.Fault) held a = brought holds a.1.0 a.1.1
-  some_received (Err e) held a = absurd a.1.2.2
+-- ---- what is told
 
 turn_told : (m : ℕ) (r : Result Turn Refusal) →
     told Step.Turn (outcome Answer.Turned r) ≤ mark_behind m r
@@ -95,56 +48,6 @@ flip_told m (Err e) = omega arith
 pub piece_told : (r : Result Bool Refusal) → told Step.Piece (outcome Answer.Laid r) ≡ 0
 piece_told (Ok more) = refl
 piece_told (Err e) = refl
-
--- a piece leaves the mark
-pub piece_mark : {D : Type 0} (k l : KeeperState D) (is_risen : Type 0) (r : Result Bool Refusal) →
-    PieceAnswers k is_risen l r → k.mark ≡ l.mark
-piece_mark {D = D} k l is_risen (Ok more) a = sym (ap (λ (x : KeeperState D). x.mark) a.1.4)
-piece_mark {D = D} k l is_risen (Err Refusal.Failed) a =
-    sym (ap (λ (x : KeeperState D). x.mark) a.1)
-piece_mark {D = D} k l is_risen (Err Refusal.Fault) a =
-    sym (ap (λ (x : KeeperState D). x.mark) a.2.4)
-piece_mark k l is_risen (Err e) a = absurd a
-
--- the keeper's mark is the one that its flips told
-pub flip_mark_is : {D : Type 0} (k l : KeeperState D) (is_risen : Type 0) (r : Result ℕ Refusal) →
-    FlipAnswers k is_risen l r → mark_flipped k.mark r ≡ l.mark
-flip_mark_is {D = D} k l is_risen (Ok place) a = sym (ap (λ (x : KeeperState D). x.mark) a.1.3.1)
-flip_mark_is {D = D} k l is_risen (Err Refusal.Failed) a =
-    sym (ap (λ (x : KeeperState D). x.mark) a.1)
-flip_mark_is {D = D} k l is_risen (Err Refusal.Unfinished) a =
-    sym (ap (λ (x : KeeperState D). x.mark) a.2)
-flip_mark_is {D = D} k l is_risen (Err Refusal.Fault) a =
-    sym (ap (λ (x : KeeperState D). x.mark) a.1.3.1)
-flip_mark_is k l is_risen (Err e) a = absurd a.1.3
-
-pub flip_mark_rises : {D : Type 0} (k l : KeeperState D) (is_risen : Type 0)
-    (r : Result ℕ Refusal) → FlipAnswers k is_risen l r → k.mark ≤ mark_flipped k.mark r
-flip_mark_rises k l is_risen (Ok place) flipped = omega (arith, flipped.1.3.0)
-flip_mark_rises k l is_risen (Err e) flipped = omega arith
-
--- ---- positions between blocks
-
-apart_between : (groups : List (List Record)) (book : BookState) (position : ℕ) →
-    book.end ≡ length (records_in groups) → IsBetween groups book position →
-    IsApart 0 groups position
-apart_between groups book position end (inl split) =
-    subst (λ g. IsApart 0 g position) (sym split.2)
-    (apart_append 0 split.0 split.1 position
-    (apart_behind 0 split.0 position (omega (arith, split.3)))
-    (apart_before (0 + length (records_in split.0)) split.1 position (omega (arith, split.3))))
-apart_between groups book position end (inr behind) =
-    apart_behind 0 groups position (omega (arith, end, behind.0))
-
--- where these positions stand between blocks, no block of these crosses one
-pub none_crossed : (groups : List (List Record)) (book : BookState) →
-    book.end ≡ length (records_in groups) → (freezes : List ℕ) →
-    AllByRecursion (λ position. IsBetween groups book position) freezes → Uncrossed freezes groups
-none_crossed groups book end [] between = All-nil (λ p. IsApart 0 groups p)
-none_crossed groups book end (position ∷ freezes) between =
-    All-cons (λ p. IsApart 0 groups p) position freezes
-    (apart_between groups book position end between.0)
-    (none_crossed groups book end freezes between.1)
 
 -- ---- and so the past goes on
 

@@ -1,21 +1,21 @@
 -- Pasts, the steps of a book in them, and what they have committed.
 use Rattle.std.proofs.Common.{◌≡◌, ℕ, ◌≤◌, None, List, []}
-use Rattle.std.proofs.Common.{◌∷◌, ◌++◌, map, take, drop, refl, sym, ◌∙◌, ap, arith}
+use Rattle.std.proofs.Common.{◌∷◌, ◌++◌, map, refl, sym, ◌∙◌, ap, arith}
 use Rattle.std.specs.List.{flat_map}
-use Rattle.std.proofs.lemmas.List.{append-nil, map-append, take-take, take-append-drop}
+use Rattle.std.proofs.lemmas.List.{append-nil, map-append}
 use Rattle.std.proofs.lemmas.Grind.{flat_map-append}
 use mathlib.Core.List.{IsPrefix}
 use Rattle.calls.specs.Contents.{Collection}
 use Rattle.calls.specs.Transactions.{Transaction, Act, committed_after, committed}
-use Rattle.machine.proofs.RecordRuns.{gathered, committed_append}
-use Rattle.txn.specs.declared.steps.Action.{Action}
-use Rattle.txn.specs.declared.steps.BookStep.{BookStep}
+use Rattle.steps.proofs.RecordRuns.{gathered, committed_append}
+use Rattle.txn.specs.declared.actions.Action.{Action}
+use Rattle.txn.specs.declared.actions.BookStep.{BookStep}
 use Rattle.txn.specs.Histories.{acts_of_action, committed_by}
 use Rattle.txn.specs.Histories.{without_count, uncounted}
 use Rattle.checkpoint.specs.Crash.{Yields}
 use Rattle.checkpoint.proofs.YieldLemmas.{prefix_trans}
-use Rattle.world.specs.declared.steps.Step.{Step}
-use Rattle.world.specs.declared.steps.Answer.{Answer}
+use Rattle.world.specs.declared.step.Step.{Step}
+use Rattle.world.specs.declared.step.Answer.{Answer}
 use Rattle.world.specs.Pasts.{Past, action_of, of_no_client, book_steps_of, AreBookSteps}
 use Rattle.world.specs.Pasts.{committed_in, told, greatest_told}
 
@@ -77,13 +77,6 @@ greatest_told-push (x ∷ past) s a mark below here =
     let rest = greatest_told-push past s a mark (omega (arith, below)) here in
     omega (arith, below, rest)
 
--- fewer of a list are a beginning of more of it
-pub prefix_take : (A : List Transaction) (m n : ℕ) → m ≤ n → IsPrefix (take m A) (take n A)
-prefix_take A m n le = (
-  drop m (take n A),
-  ap (λ l. l ++ drop m (take n A)) (sym (take-take m n A le)) ∙ take-append-drop m (take n A),
-)
-
 -- ---- what a stop leaves
 
 -- more may have been committed
@@ -99,19 +92,5 @@ yields_on start past more known c y =
       begins = prefix_trans y.kept (committed_in past) (committed_in (past ++ more)) y.begins
           (committed_in-append past more);
       holds = y.holds;
-      serial = y.serial;
-    }
-
--- what is known may be less
-pub yields_fewer : (start : List Collection) (ts known fewer : List Transaction) (c : List ℕ) →
-    IsPrefix fewer known → Yields start ts known c → Yields start ts fewer c
-yields_fewer start ts known fewer c less y =
-    record {
-      sound = y.sound;
-      content = y.content;
-      stands = y.stands;
-      kept = y.kept;
-      begins = y.begins;
-      holds = prefix_trans fewer known y.kept less y.holds;
       serial = y.serial;
     }

@@ -9,8 +9,8 @@ use Rattle.calls.specs.Transactions.{Leads, Serial}
 use Rattle.disk_model.specs.Disk.{LeavesOnly}
 use Rattle.disk_model.specs.declared.disk.Disk.{Ghosts}
 use Rattle.disk_model.proofs.Walk.{weaker, and_then}
-use Rattle.world.specs.declared.steps.Step.{Step}
-use Rattle.world.specs.declared.steps.Answer.{Answer}
+use Rattle.world.specs.declared.step.Step.{Step}
+use Rattle.world.specs.declared.step.Answer.{Answer}
 use Rattle.world.specs.Pasts.{Past, committed_in, greatest_told, acknowledged, AreAnswered, Draws}
 use Rattle.checkpoint.specs.Crash.{Yields}
 use Rattle.checkpoint.proofs.YieldLemmas.{take_longer}
@@ -19,9 +19,10 @@ use Rattle.world.specs.Pasts.{IsOneHistory}
 use Rattle.world.specs.Worlds.{Parts, HasPast}
 use Rattle.world.specs.Moves.{Whole, Moves}
 use Rattle.world.specs.OneStep.{parts, TakesStep}
-use Rattle.world.proofs.PastLemmas.{committed_are, committed_in-append, prefix_take, yields_on}
-use Rattle.world.proofs.PastLemmas.{yields_fewer}
-use Rattle.world.proofs.Readings.{comes_to}
+use Rattle.world.proofs.PastLemmas.{committed_are, committed_in-append, yields_on}
+use Rattle.checkpoint.proofs.YieldLemmas.{prefix_take}
+use Rattle.checkpoint.proofs.YieldLemmas.{yields_fewer}
+use Rattle.recovery.proofs.CommittedReads.{comes_to}
 use Rattle.world.proofs.StepLemmas.{few_marked, rests}
 
 -- What the past says of the book.

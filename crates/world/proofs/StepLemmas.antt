@@ -11,14 +11,14 @@ use Rattle.calls.specs.Contents.{Collection}
 use Rattle.calls.specs.declared.refusal.Refusal.{Refusal}
 use Rattle.disk_model.specs.Disk.{LeavesOnly}
 use Rattle.disk_model.proofs.Walk.{weaker}
-use Rattle.record_format.specs.declared.record.Record.{Record}
-use Rattle.record_format.specs.Records.{IsRecord}
-use Rattle.blocks.specs.declared.block.Block.{Block}
-use Rattle.blocks.specs.declared.block.Image.{Image}
-use Rattle.machine.specs.Machine.{journalled}
-use Rattle.repetition.specs.Steps.{State, Repeats}
-use Rattle.txn.specs.declared.steps.Action.{Action}
-use Rattle.txn.specs.declared.steps.BookStep.{BookStep}
+use Rattle.records.specs.declared.record.Record.{Record}
+use Rattle.records.specs.Records.{IsRecord}
+use Rattle.records.specs.declared.block.Block.{Block}
+use Rattle.records.specs.declared.block.Image.{Image}
+use Rattle.steps.specs.Machine.{journalled}
+use Rattle.replay.specs.Steps.{State, Repeats}
+use Rattle.txn.specs.declared.actions.Action.{Action}
+use Rattle.txn.specs.declared.actions.BookStep.{BookStep}
 use Rattle.txn.specs.Books as books
 use Rattle.txn.specs.Histories.{records_by, without_count}
 use Rattle.txn.specs.Handing.{HasHanded}
@@ -30,14 +30,15 @@ use Rattle.checkpoint.specs.Keeping.{BegunImage, HasReceived}
 use Rattle.checkpoint.specs.Stored.{StandIn}
 use Rattle.checkpoint.proofs.StandLemmas.{stands_push, stands_unheard}
 use Rattle.checkpoint.proofs.ReceivedLemmas.{received_push, received_unheard, still_kept, mark_few}
-use Rattle.world.specs.declared.steps.Step.{Step}
-use Rattle.world.specs.declared.steps.Answer.{Answer}
-use Rattle.world.specs.Pasts.{Past, BookState, action_of, of_no_client, committed_in, told, outcome}
+use Rattle.world.specs.declared.step.Step.{Step}
+use Rattle.world.specs.declared.step.Answer.{Answer}
+use Rattle.world.specs.Pasts.{Past, action_of, of_no_client, committed_in, told, outcome}
+use Rattle.txn.specs.Books.{NamedBook}
 use Rattle.world.specs.Pasts.{BookTakes, CoreStep}
 use Rattle.world.specs.Worlds.{Parts, HasPast, StandsForBook}
 use Rattle.world.proofs.PastLemmas.{are_push, are_still, committed_are}
 use Rattle.world.proofs.PastLemmas.{greatest_told-push, yields_on}
-use Rattle.world.proofs.Readings.{as_many_committed, history_yields}
+use Rattle.recovery.proofs.CommittedReads.{as_many_committed, history_yields}
 use Rattle.catalog.specs.Meaning.{catalog_meaning, catalog_making}
 
 -- ---- the records of a book grow
@@ -113,7 +114,7 @@ stands_still format start wear steps x now next image all same stands =
     (subst (λ s. StandIn format start wear (records_by steps) s blocks covered) (sym same) stood))
 
 -- The pending records behind a step are good; nothing is asked of them behind one that adds none.
-abbrev pub AreGoodBehind : Step → BookState → Type 0
+abbrev pub AreGoodBehind : Step → NamedBook → Type 0
 AreGoodBehind Step.Draw t = Unit {0}
 AreGoodBehind Step.Cut t = Unit {0}
 AreGoodBehind Step.Look t = Unit {0}
@@ -124,7 +125,7 @@ abbrev pub alone_step : Action → BookStep
 alone_step action = record { client = None; action = action }
 
 -- only a cut has a number of records
-uncut : (b : BookState) (action : Action) (t : BookState) →
+uncut : (b : NamedBook) (action : Action) (t : NamedBook) →
     books.Takes catalog_meaning catalog_making b action t → without_count action ≡ action
 uncut b (Action.Cut count a) t took = absurd took
 uncut b (Action.Make name kind a) t took = refl
@@ -237,7 +238,7 @@ module _ {D : Type 0} (seen : D → List ℕ) (may_leave : D → List ℕ → Ty
   }
 
   -- a step of the book that hands nothing over
-  pub takes : (x : Step × Answer) (action : Action) (t : BookState) →
+  pub takes : (x : Step × Answer) (action : Action) (t : NamedBook) →
       action_of x.0 x.1 ≡ Some action → told x.0 x.1 ≤ w.mark →
       books.Takes catalog_meaning catalog_making w.book action t →
       AllByRecursion (IsRecord None) t.pending →
@@ -318,7 +319,7 @@ module _ {D : Type 0} (seen : D → List ℕ) (may_leave : D → List ℕ → Ty
       }
 
   -- a block is handed over, or none
-  pub cuts : (a : Result Bool Refusal) (t : BookState) (waits : List Block) →
+  pub cuts : (a : Result Bool Refusal) (t : NamedBook) (waits : List Block) →
       action_of Step.Cut (outcome Answer.Cut a) ≡ Some (Action.Cut 0 a) →
       books.CutAnswers w.book (λ bs. waits ≡ w.transit ++ bs) (4 ≤ length w.transit) a t →
       HasPast seen may_leave start (past ++ (Step.Cut, outcome Answer.Cut a) ∷ [])
@@ -332,7 +333,7 @@ module _ {D : Type 0} (seen : D → List ℕ) (may_leave : D → List ℕ → Ty
       let all : records_by (had.steps ++ step ∷ []) ≡ records_by had.steps =
       records_by-push had.steps step ∙ append-nil (records_by had.steps) in
       let same : journalled t.state ≡ journalled w.book.state =
-      ap (λ (x : BookState). journalled x.state) cut.1 in
+      ap (λ (x : NamedBook). journalled x.state) cut.1 in
       record {
         format = had.format;
         wear = had.wear;
@@ -364,7 +365,7 @@ module _ {D : Type 0} (seen : D → List ℕ) (may_leave : D → List ℕ → Ty
       }
 
   -- a step that hands nothing over, or in which the book takes no part
-  book_takes : (x : Step × Answer) (o : Option Action) (t : BookState) (waits : List Block) →
+  book_takes : (x : Step × Answer) (o : Option Action) (t : NamedBook) (waits : List Block) →
       action_of x.0 x.1 ≡ o → told x.0 x.1 ≤ w.mark → BookTakes w.book o t →
       AllByRecursion (IsRecord None) t.pending → waits ≡ w.transit →
       HasPast seen may_leave start (past ++ x ∷ []) (record w { book = t; transit = waits })
@@ -374,7 +375,7 @@ module _ {D : Type 0} (seen : D → List ℕ) (may_leave : D → List ℕ → Ty
       rw (same) (takes x action t is tells took good)
 
   -- every step that calls no keeper
-  pub core_past : (x : Step × Answer) (t : BookState) (waits : List Block) → AreGoodBehind x.0 t →
+  pub core_past : (x : Step × Answer) (t : NamedBook) (waits : List Block) → AreGoodBehind x.0 t →
       CoreStep w.book w.transit w.mark x t waits →
       HasPast seen may_leave start (past ++ x ∷ []) (record w { book = t; transit = waits })
   core_past (Step.Draw, a) t waits good step =

@@ -1,6 +1,6 @@
 -- The room behind blocks in transit.
 use Rattle.std.proofs.Common.{◌≡◌, ℕ, ◌+◌, ◌-◌, List, drop}
-use Rattle.blocks.specs.declared.block.Block.{Block}
+use Rattle.records.specs.declared.block.Block.{Block}
 use Rattle.world.specs.Moves.{transit_len}
 
 -- so much room is left behind the first blocks

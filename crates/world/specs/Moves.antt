@@ -1,35 +1,38 @@
 -- One step of a world, with its answer: what the book, the keeper and the mark answer, and what
 -- they leave.
 use Rattle.std.specs.Prelude.{◌≡◌, ◌≢◌, ◌⊎◌, ℕ, ◌+◌, ◌-◌, ◌^◌, ◌<◌, ◌≤◌, min, Bool, List, [], ◌++◌}
-use Rattle.std.specs.Prelude.{length, Result, Ok, Err, Option, Some, None}
+use Rattle.std.specs.Prelude.{length, Result, Ok, Err, None}
 use Rattle.std.specs.List.{sum_by}
 use Rattle.calls.specs.declared.refusal.Refusal.{Refusal}
 use Rattle.disk_model.specs.Disk.{Rises}
-use Rattle.gate_block.specs.Area.{size_of, position_of}
-use Rattle.blocks.specs.declared.block.Block.{Block}
-use Rattle.blocks.specs.declared.block.Image.{Image}
-use Rattle.images.specs.Gathers.{FrozenState, GatherState, Repeats, Packs}
+use Rattle.gate_block.specs.Area.{size_of, offset_of}
+use Rattle.records.specs.declared.block.Block.{Block}
+use Rattle.records.specs.declared.block.Image.{Image}
+use Rattle.images.specs.Gathers.{GatherState, Repeats, Packs}
 use Rattle.txn.specs.Books.{CutAnswers}
 use Rattle.txn.specs.Freezing.{BookGathers, FreezeAnswers}
 use Rattle.txn.specs.Undoings.{undo_count}
 use Rattle.checkpoint.specs.Imaging.{HasPiece, end_of}
-use Rattle.checkpoint.specs.ImageAnswers.{HoldAnswers, BeginAnswers, PieceAnswers}
+use Rattle.checkpoint.specs.ImageAnswers.{BeginAnswers, PieceAnswers}
 use Rattle.checkpoint.specs.ImageAnswers.{FlipAnswers}
 use Rattle.checkpoint.specs.declared.turn.Turn.{Turn}
 use Rattle.checkpoint.specs.Keepers.{KeeperState, IsPast, TurnAnswers}
-use Rattle.undoing.specs.Undoing.{blocks_len}
+use Rattle.replay.specs.Undoing.{blocks_len}
 use Rattle.engine.specs.declared.room.Room.{Room}
+use Rattle.engine.specs.Gatherings.{IsHeld, unless_outrun}
 use Rattle.engine.specs.Rooms.{MayHandOver}
-use Rattle.world.specs.declared.steps.Step.{Step}
-use Rattle.world.specs.declared.steps.Answer.{Answer}
-use Rattle.world.specs.Pasts.{BookState, CoreStep, Draws, outcome, mark_behind, alone, mark_flipped}
-use Rattle.world.specs.Worlds.{none_gathered}
+use Rattle.world.specs.declared.step.Step.{Step}
+use Rattle.world.specs.declared.step.Answer.{Answer}
+use Rattle.world.specs.Pasts.{CoreStep, Draws, outcome, alone}
+use Rattle.txn.specs.Books.{NamedBook}
+use Rattle.engine.specs.Marks.{mark_behind, mark_flipped}
+use Rattle.images.specs.Gathers.{nothing_gathered}
 
 -- All that a world is: its book, what is gathered of it, its keeper, the blocks in transit, the
 -- mark, the next number, and how many records the undoing takes, at most, of what was live behind
 -- the last block that was handed over, and of what was live at the newest freeze.
 pub record Whole (D : Type 0) : Type 0 where
-  pub book : BookState
+  pub book : NamedBook
   pub gather : GatherState
   pub keeper : KeeperState D
   pub transit : List Block
@@ -50,7 +53,7 @@ transit_len blocks = sum_by (λ b. length b.bytes.items - 1) blocks
 
 -- the room behind the blocks of the area and those in transit
 pub record IsRoomPast {D : Type 0} (w : Whole D) (room : Room) : Type 0 where
-  pub free : room.free ≡ size_of w.keeper.area - (position_of w.keeper.area + transit_len w.transit)
+  pub free : room.free ≡ size_of w.keeper.area - (offset_of w.keeper.area + transit_len w.transit)
   pub covered : room.covered ≡ w.keeper.covered
   pub image_end : room.image_end ≡ end_of w.keeper.stage
 
@@ -95,7 +98,7 @@ pub record IsTurn {D : Type 0} (fault_count : D → ℕ) (old : Whole D) (a : An
       TurnAnswers old.keeper.held (λ bs. old.transit ≡ bs ++ new.transit) (old.transit ≡ [])
       old.keeper.failed old.keeper.mark
       (λ b. b.end ≤ old.keeper.covered) (λ b. IsPast old.keeper.stage b.end)
-      (λ b. size_of old.keeper.area < position_of old.keeper.area + length b.bytes.items)
+      (λ b. size_of old.keeper.area < offset_of old.keeper.area + length b.bytes.items)
       ((new.keeper.area ≡ old.keeper.area) × (new.keeper.disk ≡ old.keeper.disk))
       (Rises (fault_count old.keeper.disk) (fault_count new.keeper.disk))
       turned new.keeper.held new.keeper.mark new.keeper.failed
@@ -106,11 +109,6 @@ pub record IsTurn {D : Type 0} (fault_count : D → ℕ) (old : Whole D) (a : An
   pub alike : IsUndoneAlike old new
 
 -- ---- what is gathered for an image
-
--- What is gathered of a gathering that is not under way is given up, unless it is frozen.
-abbrev pub unless_outrun : Option FrozenState → Refusal → GatherState → GatherState
-unless_outrun None Refusal.Outrun g = none_gathered
-unless_outrun frozen e g = g
 
 -- What the book handed over is repeated on the copies, as far as there is memory; where the book
 -- refused, there is nothing to repeat.
@@ -131,22 +129,6 @@ pub record IsGather {D : Type 0} (old : Whole D) (a : Answer) (new : Whole D) : 
   pub next : new.next ≡ old.next
   pub alike : IsUndoneAlike old new
 
--- what was gathered, where its end is held; it is given up where the keeper refused
-abbrev pub if_held : Result (Unit {0}) Refusal → GatherState → GatherState
-if_held (Ok done) g = g
-if_held (Err e) g = none_gathered
-
--- The end of what was frozen is held by the keeper. Where the book refused, the keeper is not
--- asked.
-abbrev pub IsHeld : {D : Type 0} → Result (Unit {0}) Refusal → KeeperState D → GatherState →
-    Answer → KeeperState D → GatherState → Type 0
-IsHeld (Ok done) k g a l h =
-    (held : Result (Unit {0}) Refusal) × ((frozen : FrozenState) × (g.frozen ≡ Some frozen) ×
-    HoldAnswers k (record { end = frozen.marks.end; place = frozen.marks.place }) l held) ×
-    (a ≡ outcome (alone Answer.Frozen) held) × (h ≡ if_held held g)
-IsHeld (Err e) k g a l h =
-    (l ≡ k) × (a ≡ Answer.Refused e) × (h ≡ unless_outrun g.frozen e g)
-
 -- how many records the undoing takes of what was live at the newest freeze
 abbrev pub frozen_behind : Answer → ℕ → ℕ → ℕ
 frozen_behind Answer.Frozen counted before = counted
@@ -157,7 +139,9 @@ pub record IsFreeze {D : Type 0} (old : Whole D) (a : Answer) (new : Whole D) : 
   pub frozen : Result (Unit {0}) Refusal
   pub taken : GatherState
   pub froze : FreezeAnswers (λ v. v) old.book old.gather frozen new.book taken
-  pub held : IsHeld frozen old.keeper taken a new.keeper new.gather
+  pub held : Result (Unit {0}) Refusal
+  pub holds : IsHeld frozen old.keeper taken held new.keeper new.gather
+  pub answer : a ≡ outcome (alone Answer.Frozen) held
   pub transit : new.transit ≡ old.transit
   pub mark : new.mark ≡ old.mark
   pub next : new.next ≡ old.next
@@ -178,7 +162,7 @@ IsPacked k g frozen a l h =
     ⊎ ((g.frozen ≢ None) × (a ≡ Answer.Refused Refusal.NoMemory) × (l ≡ k) × Repeats g h)
     ⊎ ((image : Image) × Packs g image × ((begun : Result (Unit {0}) Refusal) ×
     BeginAnswers k image (undoing_len frozen) l begun × (a ≡ outcome (alone Answer.Packed) begun)) ×
-    (h ≡ none_gathered))
+    (h ≡ nothing_gathered))
 
 pub record IsPack {D : Type 0} (old : Whole D) (a : Answer) (new : Whole D) : Type 0 where
   pub packed : IsPacked old.keeper old.gather old.frozen a new.keeper new.gather

@@ -3,8 +3,8 @@ use Rattle.std.specs.Prelude.{◌≤◌, List, [], ◌∷◌, ◌++◌, take}
 use Rattle.calls.specs.Contents.{Collection}
 use Rattle.disk_model.specs.Disk.{LeavesOnly}
 use Rattle.disk_model.specs.declared.disk.Disk.{Ghosts}
-use Rattle.world.specs.declared.steps.Step.{Step}
-use Rattle.world.specs.declared.steps.Answer.{Answer}
+use Rattle.world.specs.declared.step.Step.{Step}
+use Rattle.world.specs.declared.step.Answer.{Answer}
 use Rattle.world.specs.Pasts.{Past, committed_in, IsAnswerOf, Draws}
 use Rattle.checkpoint.specs.Crash.{Yields}
 use Rattle.world.specs.Worlds.{Parts, HasPast, parts_of}

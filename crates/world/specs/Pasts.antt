@@ -7,15 +7,16 @@ use Rattle.calls.specs.Transactions.{Transaction, Serial}
 use Rattle.calls.specs.declared.refusal.Refusal.{Refusal}
 use Rattle.calls.specs.Limits.{number_end}
 use Rattle.checkpoint.specs.declared.turn.Turn.{Turn}
-use Rattle.blocks.specs.declared.block.Block.{Block}
-use Rattle.machine.specs.Machine.{IsSettled}
-use Rattle.txn.specs.declared.steps.Action.{Action}
-use Rattle.txn.specs.declared.steps.BookStep.{BookStep}
-use Rattle.txn.specs.declared.steps.Target.{Target}
+use Rattle.records.specs.declared.block.Block.{Block}
+use Rattle.steps.specs.Machine.{IsSettled}
+use Rattle.txn.specs.declared.actions.Action.{Action}
+use Rattle.txn.specs.declared.actions.BookStep.{BookStep}
+use Rattle.txn.specs.declared.actions.Target.{Target}
 use Rattle.txn.specs.Books as books
+use Rattle.txn.specs.Books.{NamedBook}
 use Rattle.txn.specs.Histories.{committed_by, uncounted}
-use Rattle.world.specs.declared.steps.Step.{Step}
-use Rattle.world.specs.declared.steps.Answer.{Answer}
+use Rattle.world.specs.declared.step.Step.{Step}
+use Rattle.world.specs.declared.step.Answer.{Answer}
 use Rattle.catalog.specs.Meaning.{catalog_meaning, catalog_making}
 
 -- A past is a list of steps, each with its answer.
@@ -80,10 +81,6 @@ greatest_told (x ∷ past) = max (told x.0 x.1) (greatest_told past)
 abbrev pub acknowledged : Past → List Transaction
 acknowledged past = take (greatest_told past) (committed_in past)
 
--- the state of a book of named collections
-abbrev pub BookState : Type 0
-BookState = books.BookState (List Collection)
-
 -- Each step has answers of its own, and may be refused; a look is never refused.
 abbrev pub IsAnswerOf : Step → Answer → Type 0
 IsAnswerOf Step.Draw (Answer.Drawn n) = Unit {0}
@@ -118,14 +115,14 @@ IsAnswerOf Step.Look (Answer.Marked mark) = Unit {0}
 IsAnswerOf s a = ⊥
 
 -- The step is one of the book, with this answer; or the book takes no part.
-abbrev pub BookTakes : BookState → Option Action → BookState → Type 0
+abbrev pub BookTakes : NamedBook → Option Action → NamedBook → Type 0
 BookTakes s None t = t ≡ s
 BookTakes s (Some action) t = books.Takes catalog_meaning catalog_making s action t
 
 -- A step that calls no keeper and gathers nothing, with its answer, leads a book and the blocks in
 -- transit on; the mark is the one that a look answers. No block is handed over where four wait, and
 -- none where there is no room for it.
-abbrev pub CoreStep : BookState → List Block → ℕ → Step × Answer → BookState → List Block → Type 0
+abbrev pub CoreStep : NamedBook → List Block → ℕ → Step × Answer → NamedBook → List Block → Type 0
 CoreStep s waiting mark (Step.Cut, Answer.Cut handed) t waits =
     books.CutAnswers s (λ bs. waits ≡ waiting ++ bs) (4 ≤ length waiting) (Ok handed) t
 CoreStep s waiting mark (Step.Cut, Answer.Refused Refusal.NotNow) t waits =
@@ -169,20 +166,10 @@ abbrev pub outcome : {T : Type 0} → (T → Answer) → Result T Refusal → An
 outcome done (Ok x) = done x
 outcome done (Err e) = Answer.Refused e
 
--- the mark behind a turn: the one that it told, if it told one
-abbrev pub mark_behind : ℕ → Result Turn Refusal → ℕ
-mark_behind mark (Ok (Turn.Kept place)) = place
-mark_behind mark r = mark
-
--- the mark behind a flip
-abbrev pub mark_flipped : ℕ → Result ℕ Refusal → ℕ
-mark_flipped mark (Ok place) = place
-mark_flipped mark (Err e) = mark
-
 -- The committed transactions of the past, each run whole, one after another, with the replies that
 -- its client got, lead from the start to what the collections of the book hold without the live
 -- transactions.
-pub record IsOneHistory (start : List Collection) (past : Past) (book : BookState) : Type 0 where
+pub record IsOneHistory (start : List Collection) (past : Past) (book : NamedBook) : Type 0 where
   pub content : List Collection
   pub settled : IsSettled catalog_meaning book.state content
   pub serial : Serial (committed_in past) start content

@@ -1,39 +1,28 @@
 -- The past of a world: a relation between a world and the steps that led to it, which no field
 -- stores.
 use Rattle.calls.specs.declared.format.Format.{Format}
-use Rattle.std.specs.Prelude.{◌≡◌, ◌≢◌, ℕ, ◌≤◌, List, [], ◌++◌, None}
+use Rattle.std.specs.Prelude.{◌≡◌, ℕ, ◌≤◌, List, ◌++◌}
 use Rattle.calls.specs.Contents.{Collection}
-use Rattle.record_format.specs.declared.record.Record.{Record}
-use Rattle.blocks.specs.declared.block.Block.{Block}
-use Rattle.blocks.specs.declared.block.Image.{Image}
+use Rattle.records.specs.declared.record.Record.{Record}
+use Rattle.records.specs.declared.block.Block.{Block}
+use Rattle.records.specs.declared.block.Image.{Image}
 use Rattle.images.specs.Gathers.{GatherState, Packs}
-use Rattle.images.specs.Gatherings.{IsUnderWay}
-use Rattle.machine.specs.Machine.{journalled}
-use Rattle.repetition.specs.Steps.{State}
-use Rattle.txn.specs.declared.steps.BookStep.{BookStep}
-use Rattle.txn.specs.Freezing.{IsGatheredOf}
+use Rattle.steps.specs.Machine.{journalled}
+use Rattle.replay.specs.Steps.{State}
+use Rattle.txn.specs.declared.actions.BookStep.{BookStep}
 use Rattle.txn.specs.Histories.{records_by}
 use Rattle.txn.specs.Handing.{IsImageIn, HasHanded}
 use Rattle.checkpoint.specs.Keepers.{KeeperState}
 use Rattle.checkpoint.specs.Keeping.{BegunImage, IsImageFor, AreImagesFor, HasReceived}
 use Rattle.checkpoint.specs.Stored.{StandIn}
-use Rattle.world.specs.Pasts.{Past, BookState, AreBookSteps, greatest_told}
+use Rattle.world.specs.Pasts.{Past, AreBookSteps, greatest_told}
+use Rattle.txn.specs.Books.{NamedBook}
 use Rattle.catalog.specs.Meaning.{catalog_meaning, catalog_making}
-
--- where nothing is gathered
-abbrev pub none_gathered : GatherState
-none_gathered = record { mark = 0; parts = []; effects = []; frozen = None }
-
--- What is gathered is of the book: it is new, or goes along, or is of another gathering than the
--- one that is under way, as it is once it is frozen.
-pub record IsOfBook (b : BookState) (g : GatherState) : Type 0 where
-  pub gathered : IsGatheredOf (λ v. v) b g
-  pub over : g.frozen ≢ None → (g.mark ≢ 0) × (IsUnderWay b.gathering g → ⊥)
 
 -- The parts of a world that its past speaks of. The blocks in transit were handed over, and the
 -- keeper did not take them yet. The mark is the one that the next look answers.
 pub record Parts (D : Type 0) : Type 0 where
-  pub book : BookState
+  pub book : NamedBook
   -- what is gathered of the book for an image
   pub gather : GatherState
   pub keeper : KeeperState D
@@ -41,7 +30,7 @@ pub record Parts (D : Type 0) : Type 0 where
   pub mark : ℕ
 
 -- the parts of a world, from its fields
-abbrev pub parts_of : {D : Type 0} → BookState → GatherState → KeeperState D → List Block → ℕ →
+abbrev pub parts_of : {D : Type 0} → NamedBook → GatherState → KeeperState D → List Block → ℕ →
     Parts D
 parts_of book gather keeper transit mark = record {
   book = book;
@@ -69,9 +58,9 @@ pub record HasPast {D : Type 0} (seen : D → List ℕ) (may_leave : D → List 
   pub wear : ℕ
   pub steps : List BookStep
   pub are : AreBookSteps past steps
-  -- the blocks that the keeper took, the records of all that were handed over, the positions at
-  -- which the book was frozen and an end held, and the images that were begun, each one of the book
-  -- after a beginning of its steps
+  -- the blocks that the keeper took, the records of all that were handed over, the LSNs at which
+  -- the book was frozen and an end held, and the images that were begun, each one of the book after
+  -- a beginning of its steps
   pub received : List Block
   pub groups : List (List Record)
   pub freezes : List ℕ

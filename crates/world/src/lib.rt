@@ -2,10 +2,10 @@
 //! Its theorem is the crash theorem.
 #![tactic(auto)]
 
-mod steps;
+mod step;
 mod transit;
 mod world;
 
-pub use steps::{Answer, Step};
+pub use step::{Answer, Step};
 pub use transit::Transit;
 pub use world::{World, play};

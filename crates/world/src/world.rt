@@ -9,29 +9,30 @@ ghost use Rattle.disk_model.specs.Disk.{LeavesOnly};
 ghost use Rattle.checkpoint.specs.Imaging.{pieces_left};
 ghost use Rattle.checkpoint.specs.Keepers.{IsFresh};
 ghost use Rattle.recovery.specs.Openings.{IsOpened, IsReadyStore};
-ghost use Rattle.world.specs.declared.steps.Step.{Step};
-ghost use Rattle.world.specs.declared.steps.Answer.{Answer};
-ghost use Rattle.world.specs.Pasts.{Past, acknowledged, mark_behind, mark_flipped, AreAnswered};
+ghost use Rattle.world.specs.declared.step.Step.{Step};
+ghost use Rattle.world.specs.declared.step.Answer.{Answer};
+ghost use Rattle.world.specs.Pasts.{Past, acknowledged, AreAnswered};
+ghost use Rattle.engine.specs.Marks.{mark_behind, mark_flipped};
 ghost use Rattle.world.specs.Pasts.{Draws, alone, outcome, committed_in, IsOneHistory};
 ghost use Rattle.checkpoint.specs.Crash.{Yields};
-ghost use Rattle.world.specs.Worlds.{HasPast, none_gathered};
-ghost use Rattle.world.specs.Moves.{IsRoomPast, Moves, unless_outrun};
+ghost use Rattle.world.specs.Worlds.{HasPast};
+ghost use Rattle.images.specs.Gathers.{nothing_gathered};
+ghost use Rattle.world.specs.Moves.{IsRoomPast, Moves};
 ghost use Rattle.world.specs.OneStep.{parts, TakesStep};
 
-use crate::steps::{Answer, Step};
+use crate::step::{Answer, Step};
 use crate::transit::Transit;
 use calls::limits::NUMBER_END;
 use calls::{Call, Kind, Name, Refusal, Reply, When};
 use catalog::{Catalog, NamedHolding};
 use checkpoint::{Keeper, Turn};
 use disk_model::Disk;
-use engine::{Room, undoing_behind};
+use engine::{Room, give_up_outrun, hold_frozen, pack, undoing_behind};
 use images::Gather;
+use replay::blocks_len;
 use std::alloc::Global;
 use std::marker::Model;
-use std::mem;
 use txn::Book;
-use undoing::blocks_len;
 
 /// A book, what is gathered of it for an image, a keeper, the blocks in transit, the mark, the next
 /// number, and what is known of the undoing that a crash would ask for. Contracts see all of it.
@@ -64,7 +65,7 @@ impl<D: Disk> Model for World<D> {
     ghost use Rattle.std.specs.Ordering.{nat_cmp};
     ghost use Rattle.catalog.specs.Holdings.{catalog_code, collection_code};
     ghost use Rattle.world.specs.Moves.{Whole};
-    ghost use Rattle.world.specs.Worlds.{IsOfBook};
+    ghost use Rattle.engine.specs.Gatherings.{IsOfBook};
 
     ghost Value = { Whole D };
 
@@ -98,7 +99,7 @@ impl<D: Disk> World<D> {
     pub fn new(alloc: Global, book: Book<Catalog>, keeper: Keeper<D>) -> Result<Self, (Refusal, D)>
         requires { IsFresh keeper }
         ensures parts { IfOk result (λ w. (w.book ≡ book) ×
-            (w.gather ≡ none_gathered) × (w.keeper ≡ keeper) × (w.transit ≡ []) ×
+            (w.gather ≡ nothing_gathered) × (w.keeper ≡ keeper) × (w.transit ≡ []) ×
             (w.next ≡ book.next) × (w.undoing ≡ 0) × (w.frozen ≡ 0)) }
         ensures past { IfOk result (λ w. (bytes : List ℕ) →
             IsOpened bytes book keeper.area (D.seen keeper.disk) →
@@ -142,7 +143,7 @@ impl<D: Disk> World<D> {
     pub fn is_frozen(&self) -> bool
         ensures { result ≡ is_some self.now.gather.frozen }
     {
-        self.gather.marks().is_some()
+        self.gather.image_head().is_some()
     }
 
     /// The disk. No device is called.
@@ -289,7 +290,7 @@ impl<D: Disk> World<D> {
                 Ok(more)
             }
             Err(refusal) => {
-                give_up_outrun(self.alloc, &refusal, &mut self.gather);
+                give_up_outrun(self.alloc, refusal, &mut self.gather);
                 Err(refusal)
             }
         }
@@ -305,17 +306,8 @@ impl<D: Disk> World<D> {
             (Step.Freeze, outcome (alone Answer.Frozen) result) self.new }
     {
         self.book.upheld();
-        if let Err(refusal) = self.book.freeze(&mut self.gather) {
-            give_up_outrun(self.alloc, &refusal, &mut self.gather);
-            return Err(refusal);
-        }
-        let Some(marks) = self.gather.marks() else {
-            unreachable!();
-        };
-        if let Err(refusal) = self.keeper.hold(marks.end, marks.place) {
-            self.gather = Gather::new(self.alloc);
-            return Err(refusal);
-        }
+        let frozen = self.book.freeze(&mut self.gather);
+        hold_frozen(self.alloc, frozen, &mut self.keeper, &mut self.gather)?;
         self.frozen = self.book.undoing();
         Ok(())
     }
@@ -332,13 +324,8 @@ impl<D: Disk> World<D> {
         if !self.is_frozen() {
             return Err(Refusal::Unfinished);
         }
-        match mem::replace(&mut self.gather, Gather::new(self.alloc)).pack() {
-            Ok(image) => self.keeper.begin_image(image, blocks_len(self.frozen)),
-            Err((refusal, gather)) => {
-                self.gather = gather;
-                Err(refusal)
-            }
-        }
+        let image = pack(self.alloc, &mut self.gather)?;
+        self.keeper.begin_image(image, blocks_len(self.frozen))
     }
 
     /// Writes a block of the image in progress, and answers whether another one is left.
@@ -471,15 +458,6 @@ fn answered(done: Result<(), Refusal>, answer: Answer) -> Answer
     match done {
         Ok(()) => answer,
         Err(refusal) => Answer::Refused(refusal),
-    }
-}
-
-// Gives up what is gathered of a gathering that is not under way, unless it is frozen.
-fn give_up_outrun(alloc: Global, refusal: &Refusal, gather: &mut Gather<NamedHolding>)
-    ensures { gather.new ≡ unless_outrun gather.old.frozen refusal.now gather.old }
-{
-    if matches!(refusal, Refusal::Outrun) && gather.marks().is_none() {
-        *gather = Gather::new(alloc);
     }
 }
 

@@ -1,7 +1,7 @@
 // Copying a store to another disk.
 ghost use Rattle.std.specs.Prelude.{◌≡◌, ◌⊎◌};
 ghost use Rattle.disk_model.specs.Disk.{ReadsOnly, LeavesOnly, IsAtRest};
-ghost use Rattle.recovery.specs.Formats.{IsMaking};
+ghost use Rattle.recovery.specs.Formatting.{IsMaking};
 ghost use Rattle.recovery.specs.Copies.{IsCopyOf};
 ghost use Rattle.boost.specs.Effects.{IsCopied, IsCopyRefused};
 

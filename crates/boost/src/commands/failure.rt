@@ -5,7 +5,7 @@ use calls::Refusal;
 use script::ScriptError;
 use std::alloc::AllocError;
 use std::{fmt, io};
-use talks::Said;
+use talks::Response;
 
 /// Why a command was not done. Each line of its text begins with the program's name; that of
 /// `Unwritten` is empty.
@@ -48,7 +48,7 @@ impl Failure<'_> {
 impl fmt::Display for Failure<'_> {
     fn fmt<W: fmt::Write>(&self, f: &mut fmt::Formatter<W>) -> fmt::Result {
         match self {
-            Failure::Refused(refusal) => write!(f, "boost: {}", Said::Refused(*refusal)),
+            Failure::Refused(refusal) => write!(f, "boost: {}", Response::Refused(*refusal)),
             Failure::NotUnderstood(line) => write!(f, "boost: line {line}: not understood"),
             Failure::CannotOpen(path, error) => {
                 write!(f, "boost: cannot open {path}\nboost: {error}")
@@ -64,7 +64,11 @@ impl fmt::Display for Failure<'_> {
                 write!(f, "boost: {path} holds bytes: --force empties it")
             }
             Failure::BadArgument(why) => {
-                write!(f, "boost: {}\nboost: {why}", Said::Refused(Refusal::BadArg))
+                write!(
+                    f,
+                    "boost: {}\nboost: {why}",
+                    Response::Refused(Refusal::BadArg)
+                )
             }
         }
     }

@@ -2,7 +2,7 @@
 ghost use Rattle.std.specs.Prelude.{OnOk, IfOk, IfErr};
 ghost use Rattle.calls.specs.declared.format.Format.{Format};
 ghost use Rattle.disk_model.specs.Disk.{IsAtRest};
-ghost use Rattle.recovery.specs.Formats.{IsEmptyStore};
+ghost use Rattle.recovery.specs.Formatting.{IsEmptyStore};
 ghost use Rattle.boost.specs.Commands.{IsOfStore};
 ghost use Rattle.boost.specs.Effects.{IsPlayedAnew};
 

@@ -1,15 +1,15 @@
 // What room a store takes and has, as it is printed.
 ghost use Rattle.std.specs.Prelude.{◌≡◌, ◌≤◌, ◌+◌, ◌↔◌, length, IsTrue, IfErr};
 ghost use Rattle.calls.specs.Names.{IsName};
-ghost use Rattle.record_format.specs.declared.record.Record.{Record};
-ghost use Rattle.record_format.specs.Records.{spelled, FitsItem};
+ghost use Rattle.records.specs.declared.record.Record.{Record};
+ghost use Rattle.records.specs.Records.{spelled, FitsItem};
 ghost use Rattle.boost.specs.Commands.{IsOfStore};
 
 use crate::commands::failure::Failure;
 use calls::{Item, Kind, Name, check_name};
 use catalog::{Catalog, Shown};
 use desks::full_of;
-use record_format::{Record, encoded_len, fits_item};
+use records::{Record, encoded_len, fits_item};
 use recovery::Survey;
 use std::alloc::AllocError;
 use std::io::Write;

@@ -1,9 +1,9 @@
 // The clients of a script as one who talks for them all.
 ghost use Rattle.std.specs.Prelude.{◌≡◌, ◌↔◌, ⊤, IsTrue};
-ghost use Rattle.talks.specs.Sessions.{said_place, IsRefusal};
+ghost use Rattle.talks.specs.Sessions.{response_place, IsRefusal};
 
 use crate::plays::through_store::Stage;
-use boost::{Action, End, Line, Request, Said, Speaker};
+use boost::{Action, End, Line, Request, Response, Speaker};
 use calls::{Refusal, Reply};
 use checkpoint::Turn;
 use disk_model::Disk;
@@ -57,7 +57,7 @@ impl<'l, 'c, 's, D: Disk, J: Naming> Crowd<'l, 'c, 's, D, J> {
 }
 
 impl<D: Disk, J: Naming> Speaker for Crowd<'_, '_, '_, D, J> {
-    type Said = Said;
+    type Response = Response;
 
     ghost says = { λ _ _ _ _. ⊤ };
 
@@ -67,15 +67,15 @@ impl<D: Disk, J: Naming> Speaker for Crowd<'_, '_, '_, D, J> {
 
     ghost is_open = { λ s. IsTrue s.is_busy };
 
-    ghost placed = { said_place };
+    ghost placed = { response_place };
 
     ghost refuses = { IsRefusal };
 
-    fn say<R: Wait>(&mut self, rt: &R, request: &Request) -> Said {
+    fn say<R: Wait>(&mut self, rt: &R, request: &Request) -> Response {
         let client = self.next_client(rt);
-        let said = self.stage.asked(rt, client, request);
+        let response = self.stage.asked(rt, client, request);
         self.is_busy = self.stage.busy_client().is_some();
-        said
+        response
     }
 
     /// There is no committer but this thread: it takes turns until all is kept.
@@ -117,25 +117,25 @@ impl<D: Disk, J: Naming> Speaker for Crowd<'_, '_, '_, D, J> {
         self.is_busy
     }
 
-    fn place(said: &Said) -> Option<u64>
-        ensures { result ≡ said_place said.now }
+    fn place(response: &Response) -> Option<u64>
+        ensures { result ≡ response_place response.now }
     {
-        match said {
-            Said::Placed(place) => Some(*place),
+        match response {
+            Response::Placed(place) => Some(*place),
             _ => None,
         }
     }
 
-    fn is_refusal(said: &Said) -> bool
-        ensures { IsTrue result ↔ IsRefusal said.now }
+    fn is_refusal(response: &Response) -> bool
+        ensures { IsTrue result ↔ IsRefusal response.now }
     {
-        matches!(said, Said::Refused(_))
+        matches!(response, Response::Refused(_))
     }
 
-    fn is_fruitless(said: &Said) -> bool {
+    fn is_fruitless(response: &Response) -> bool {
         matches!(
-            said,
-            Said::Replied(Reply::Nothing) | Said::Refused(Refusal::Busy(_))
+            response,
+            Response::Replied(Reply::Nothing) | Response::Refused(Refusal::Busy(_))
         )
     }
 }

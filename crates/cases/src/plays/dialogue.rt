@@ -2,7 +2,7 @@
 ghost use Rattle.store.specs.Openings.{IsNamed};
 
 use crate::plays::crowd::Crowd;
-use crate::plays::through_store::{Stage, clients};
+use crate::plays::through_store::{Stage, sessions};
 use boost::{Failure, Line};
 use disk_model::Disk;
 use std::alloc::Global;
@@ -120,9 +120,9 @@ fn hold_on<D: Disk, J: Naming, R: Wait + Clock + AllocGlobal>(
     dialogue: &Dialogue<'_>,
     heard: &mut Heard,
 ) -> Result<(), Failure<'static>> {
-    let mut clients = clients(rt, store)?;
+    let sessions = sessions(rt, store)?;
     let mut committer = store.committer(rt);
-    let stage = Stage::new(rt, store, clients.as_mut_slice(), &mut committer)?;
+    let stage = Stage::new(rt, store, sessions, &mut committer);
     let mut crowd = Crowd::new(stage, dialogue.lines);
     let ended = hold(
         rt,
@@ -147,7 +147,7 @@ fn hold_opened<J: Naming, D: Disk + Drop, R: Wait + Clock + AllocGlobal>(
 {
     let store = opened.named::<J>();
     let done = hold_on(rt, &store, dialogue, heard);
-    let (_, keeper) = store.close(None);
+    let (_, keeper, _) = store.close(None);
     drop(keeper.into_disk());
     done
 }

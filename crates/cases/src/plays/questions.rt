@@ -3,7 +3,7 @@ use crate::plays::runs::{carry_out, to_check, to_show, to_show_read_only, to_sta
 use crate::plays::told::Told;
 use crate::plays::values::{not_understood, number};
 use crate::plays::workbench::Workbench;
-use crate::plays::{disks, runs, scripts, steps};
+use crate::plays::{disks, runs, scripts, stepping};
 use boost::Task;
 use disk_model::Disk;
 use std::alloc::Global;
@@ -58,7 +58,7 @@ pub fn ask(
         "demo" => carry_out(alloc, bench, Task::Demo, told),
         "format" => runs::format(alloc, bench, rest, told),
         "upgrade" => carry_out(alloc, bench, to_upgrade(alloc), told),
-        "steps" => steps::take(alloc, bench, told),
+        "steps" => stepping::take(alloc, bench, told),
         _ => ask_of_disk(alloc, bench, word, rest, told),
     }
 }

@@ -4,7 +4,7 @@ ghost use Rattle.calls.specs.declared.refusal.Refusal.{Refusal};
 ghost use Rattle.store.specs.Openings.{IsNamed};
 
 use crate::plays::runs::Ran;
-use boost::{Action, End, Failure, Line, Request, Said, Session, Speaker, parse, report};
+use boost::{Action, End, Failure, Line, Request, Response, Session, Speaker, parse, report};
 use calls::Refusal;
 use checkpoint::Turn;
 use disk_model::Disk;
@@ -12,7 +12,7 @@ use std::alloc::{AllocError, Global};
 use std::io::{self, Write};
 use std::marker::Brand;
 use std::sync::Wait;
-use store::{Checkpoint, Checkpointer, Client, Committer, Naming, Opened, Store};
+use store::{Checkpoint, Checkpointer, Committer, Naming, Opened, Store};
 
 // A script's clients are numbered from 1 to so many.
 const CLIENTS: usize = 64;
@@ -23,7 +23,7 @@ const ROOM: usize = 1 << 16;
 /// The clients of a script on a store, its committer and its checkpointer.
 #[derive(Drop)]
 pub struct Stage<'c, 's, D: Disk, J: Naming> {
-    pub sessions: Vec<Session<'c, 's, J>>,
+    pub sessions: Vec<Session<'s, J>>,
     pub committer: &'c mut Committer<'s, D, J>,
     checkpointer: Checkpointer<'s, D, J>,
     has_failed: bool,
@@ -31,80 +31,74 @@ pub struct Stage<'c, 's, D: Disk, J: Naming> {
     waits: bool,
 }
 
-/// The clients of a script.
-pub fn clients<'s, D: Disk, J: Naming, R: Wait + AllocGlobal>(
+/// A session for each client of a script.
+pub fn sessions<'s, D: Disk, J: Naming, R: Wait + AllocGlobal>(
     rt: &R,
     store: &'s Store<D, J>,
-) -> Result<Vec<Client<'s, J>>, Refusal> {
-    let mut clients = Vec::with_capacity(rt.alloc(), CLIENTS)?;
+) -> Result<Vec<Session<'s, J>>, Refusal> {
+    let mut sessions = Vec::with_capacity(rt.alloc(), CLIENTS)?;
     for _ in 0..CLIENTS {
-        clients.push(store.client(rt)?)?;
+        sessions.push(Session::new(store.client(rt)?))?;
     }
-    Ok(clients)
-}
-
-// A session for each client.
-fn sessions<'c, 's, J: Naming>(
-    alloc: Global,
-    clients: &'c mut [Client<'s, J>],
-) -> Result<Vec<Session<'c, 's, J>>, AllocError> {
-    clients
-        .iter_mut()
-        .map(|client| Session::new(client))
-        .collect(alloc)
+    Ok(sessions)
 }
 
 impl<'c, 's, D: Disk, J: Naming> Stage<'c, 's, D, J> {
     /// Before the first line.
-    pub fn new<R: Wait + AllocGlobal>(
+    pub fn new<R: Wait>(
         rt: &R,
         store: &'s Store<D, J>,
-        clients: &'c mut [Client<'s, J>],
+        sessions: Vec<Session<'s, J>>,
         committer: &'c mut Committer<'s, D, J>,
-    ) -> Result<Self, Refusal> {
-        Ok(Self {
-            sessions: sessions(rt.alloc(), clients)?,
+    ) -> Self {
+        Self {
+            sessions,
             committer,
             checkpointer: store.checkpointer(rt),
             has_failed: false,
             waits: false,
-        })
+        }
     }
 
     /// What a line answers. Whether the disk has failed is noted.
-    pub fn answer<R: Wait>(&mut self, rt: &R, action: &Action) -> Said {
+    pub fn answer<R: Wait>(&mut self, rt: &R, action: &Action) -> Response {
         let done = self.act(rt, action);
-        self.said(done)
+        self.response(done)
     }
 
     /// What a request of a client of this number is answered.
-    pub fn asked<R: Wait>(&mut self, rt: &R, client: usize, request: &Request) -> Said {
+    pub fn asked<R: Wait>(&mut self, rt: &R, client: usize, request: &Request) -> Response {
         let done = self.ask(rt, client, request);
-        self.said(done)
+        self.response(done)
     }
 
     // What is said of what was done or refused.
-    fn said(&mut self, done: Result<Said, Refusal>) -> Said {
+    fn response(&mut self, done: Result<Response, Refusal>) -> Response {
         match done {
-            Ok(said) => said,
+            Ok(response) => response,
             Err(refusal) => {
                 self.has_failed |= matches!(refusal, Refusal::Fault | Refusal::Failed);
-                Said::Refused(refusal)
+                Response::Refused(refusal)
             }
         }
     }
 
     // Does what a line asks for.
-    fn act<R: Wait>(&mut self, rt: &R, action: &Action) -> Result<Said, Refusal> {
+    fn act<R: Wait>(&mut self, rt: &R, action: &Action) -> Result<Response, Refusal> {
         match action {
-            Action::Turn => Ok(Said::Turned(self.turn(rt)?)),
-            Action::Checkpoint => Ok(Said::Flipped(self.checkpoint(rt)?)),
+            Action::Turn => Ok(Response::Turned(self.turn(rt)?)),
+            Action::Checkpoint => Ok(Response::Flipped(self.checkpoint(rt)?)),
             Action::Client(number, request) => self.ask(rt, usize::from(*number), request),
         }
     }
 
     // What a client's request is answered.
-    fn ask<R: Wait>(&mut self, rt: &R, client: usize, request: &Request) -> Result<Said, Refusal> {
+    fn ask<R: Wait>(
+        &mut self,
+        rt: &R,
+        client: usize,
+        request: &Request,
+    ) -> Result<Response, Refusal> {
         match self.sessions.get_mut(client.wrapping_sub(1)) {
             Some(session) => Ok(session.say(rt, request)),
             // each of the 64 has a session
@@ -167,9 +161,9 @@ impl<'c, 's, D: Disk, J: Naming> Stage<'c, 's, D, J> {
 
     // Runs a line and prints what it is answered. Whether memory was refused.
     fn play_once<R: Wait>(&mut self, rt: &R, line: &Line, out: &mut Vec<u8>) -> io::Result<bool> {
-        let said = self.answer(rt, &line.what);
-        writeln!(out, "{}: {said}", line.number)?;
-        Ok(matches!(said, Said::Refused(Refusal::NoMemory)))
+        let response = self.answer(rt, &line.what);
+        writeln!(out, "{}: {response}", line.number)?;
+        Ok(matches!(response, Response::Refused(Refusal::NoMemory)))
     }
 
     // Runs lines, each once more where memory was refused.
@@ -210,9 +204,9 @@ fn play_on<D: Disk, J: Naming, R: Wait + AllocGlobal>(
     out: &mut Vec<u8>,
     ends: &mut Vec<u8>,
 ) -> Result<(), Failure<'static>> {
-    let mut clients = clients(rt, store)?;
+    let sessions = sessions(rt, store)?;
     let mut committer = store.committer(rt);
-    let mut stage = Stage::new(rt, store, clients.as_mut_slice(), &mut committer)?;
+    let mut stage = Stage::new(rt, store, sessions, &mut committer);
     stage.play(rt, lines, out)?;
     if stage.has_failed {
         stage.tell_ends(rt, ends)?;
@@ -232,7 +226,7 @@ fn play_opened<J: Naming, D: Disk + Drop, R: Wait + AllocGlobal>(
 {
     let store = opened.named::<J>();
     let done = play_on(rt, &store, lines, out, ends);
-    let (_, keeper) = store.close(None);
+    let (_, keeper, _) = store.close(None);
     (done, keeper.into_disk())
 }
 

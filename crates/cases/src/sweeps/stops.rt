@@ -272,9 +272,9 @@ pub fn may_show(said: &str) -> (u64, u64) {
 }
 
 // The number behind the last such word, or 0.
-fn last_number(said: &str, word: &str) -> u64 {
+fn last_number(response: &str, word: &str) -> u64 {
     let mut found = 0;
-    for line in said.lines() {
+    for line in response.lines() {
         if let Some((_, number)) = line.split_once(word) {
             found = number.parse().unwrap_or(0);
         }

@@ -78,7 +78,7 @@ part_wears (InPool s) n c r w h = tt
 part_wears (InStock s) n c r w h = stock_within s n c r w h
 part_wears (InQuotas s) n c r w h = quota_within s n c r w h
 
--- What can be put off is Done at once, and after every run.
+-- What can be deferred is Done at once, and after every run.
 pub part_deferred : (s : Content) (d : Call) → IsOf (kind_of_content s) d → Deferrable d →
     Answers s d Reply.Done
 part_deferred (InSet s) d k l = set_deferred s d k l

@@ -1,8 +1,8 @@
 // Transactions of the same call.
 use crate::asking::ask;
 use crate::bench::calling::Content;
-use background::{Attempt, Transaction, transact};
 use calls::{Call, Refusal, Reply};
+use fizgaloms::{Attempt, Transaction, transact};
 use rand_pcg::Pcg32;
 use std::alloc::AllocGlobal;
 use std::rt::Clock;

@@ -2,8 +2,8 @@
 use crate::bench::calling::Content;
 use crate::bench::committing::commit_all;
 use crate::bench::workload::Workload;
-use background::Work;
 use calls::Refusal;
+use fizgaloms::Work;
 use std::alloc::AllocGlobal;
 use std::rt::Clock;
 use std::sync::Wait;

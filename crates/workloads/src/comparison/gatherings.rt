@@ -12,8 +12,9 @@ use boosted::Boosted;
 use calls::limits::NUMBER_END;
 use calls::{Bytes, Call, Format, Kind, Refusal};
 use catalog::{Catalog, NamedHolding, Parts};
-use images::{Effect, Gather, Marks, image_blocks};
-use machine::Machine;
+use images::{Effect, Gather, ImageHead};
+use recovery::image_blocks;
+use replay::Machine;
 use std::alloc::Global;
 use std::collections::VecDeque;
 use std::fmt;
@@ -38,7 +39,7 @@ struct Gathering {
     gather: Gather<NamedHolding>,
     effects: VecDeque<Effect>,
     // how many calls were run
-    position: u64,
+    lsn: u64,
 }
 
 // Seven collections, one of each kind.
@@ -65,28 +66,28 @@ impl Gathering {
             catalog: one_of_each(alloc)?,
             gather: Gather::new(alloc),
             effects: VecDeque::new(alloc),
-            position: 0,
+            lsn: 0,
         })
     }
 
-    // Whether the call can be asked or put off.
+    // Whether the call can be asked or deferred.
     fn can_run(&self, at: u8, call: &Call) -> bool
         ensures { IsTrue result → CanRun self.now.catalog at call.now }
     {
         self.catalog.askable(at, call).is_ok() || self.catalog.deferrable(at, call).is_ok()
     }
 
-    // Runs the call, if it can be asked or put off.
+    // Runs the call, if it can be asked or deferred.
     fn call(&mut self, at: u8, call: Call) -> Result<(), Refusal>
         requires { IsGoing self.old }
         ensures { IsGoing self.new }
     {
-        if self.position >= NUMBER_END || !self.can_run(at, &call) {
+        if self.lsn >= NUMBER_END || !self.can_run(at, &call) {
             return Ok(());
         }
         let reply = self.catalog.look(at, &call)?;
         self.run(Effect {
-            position: self.position + 1,
+            lsn: self.lsn + 1,
             collection: at,
             call,
             reply,
@@ -96,8 +97,8 @@ impl Gathering {
     // Runs the call, which is answered so, and notes it.
     fn run(&mut self, effect: Effect) -> Result<(), Refusal>
         requires going { IsGoing self.old }
-        requires position { effect.position ≡ self.old.position + 1 }
-        requires unworn { self.old.position < number_end }
+        requires lsn { effect.lsn ≡ self.old.lsn + 1 }
+        requires unworn { self.old.lsn < number_end }
         requires answered { AnswersAt self.old.catalog effect.collection effect.call effect.reply }
         requires short { IsShort widest effect.call }
         ensures { IsGoing self.new }
@@ -105,7 +106,7 @@ impl Gathering {
         self.effects.reserve(1)?;
         self.catalog
             .run(effect.collection, &effect.call, &effect.reply)?;
-        self.position = effect.position;
+        self.lsn = effect.lsn;
         self.effects.push_back_reserved(effect);
         Ok(())
     }
@@ -129,8 +130,7 @@ impl Gathering {
             ≡ Some p) }
         ensures { IsGoing self.new }
     {
-        self.gather
-            .gather(MARK, part, self.position, &mut self.effects)
+        self.gather.gather(MARK, part, self.lsn, &mut self.effects)
     }
 
     // Repeats what was handed over.
@@ -149,17 +149,17 @@ impl Gathering {
             catalog,
             mut gather,
             mut effects,
-            position,
+            lsn,
         } = self;
-        let machine = Machine::new(alloc, Format::Two, catalog, position);
-        let marks = Marks {
+        let machine = Machine::new(alloc, Format::Two, catalog, lsn);
+        let image_head = ImageHead {
             format: Format::Two,
             next: 1,
-            wear: position,
-            end: position,
+            wear: lsn,
+            end: lsn,
             place: 6,
         };
-        gather.freeze(marks, machine.live(), &mut effects)?;
+        gather.freeze(image_head, machine.live(), &mut effects)?;
         match gather.pack() {
             Ok(image) => Ok(image.blocks == image_blocks(alloc, &machine, 1)?),
             Err((refusal, _)) => Err(refusal),
@@ -254,7 +254,7 @@ pub(crate) fn compare(alloc: Global) -> Result<Summary, Refusal> {
     };
     for _ in 0..GATHERINGS {
         let gathering = gather_once(&mut sequence, alloc)?;
-        summary.calls = summary.calls.saturating_add(gathering.position);
+        summary.calls = summary.calls.saturating_add(gathering.lsn);
         if !gathering.agrees(alloc)? {
             summary.differences = summary.differences.saturating_add(1);
         }

@@ -4,9 +4,9 @@ mod requests;
 mod workers;
 
 use crate::trouble::Trouble;
-use background::Work;
 use calls::Refusal;
 use disk_model::{FileDisk, Unknown};
+use fizgaloms::Work;
 use gate_block::layout::AREAS_AT;
 use plain::Plain;
 use recovery::format;
@@ -54,7 +54,7 @@ fn compare<
     threads: usize,
     out: &mut impl Write,
 ) -> Result<FileDisk<Unknown>, Trouble> {
-    let (done, closed) = background::run(rt, disk, work, threads);
+    let (done, closed) = fizgaloms::run(rt, disk, work, threads);
     let rounds = in_order(rt.alloc(), done?)?;
     let differences = differences(plain, rounds.as_slice())?;
     let committed = rounds.len();

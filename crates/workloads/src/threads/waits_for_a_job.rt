@@ -1,9 +1,9 @@
 // A client that waits for a job, which another one puts in.
 use crate::trouble::Trouble;
-use background::{Attempt, NOTHING_FOUND, Patience, Transaction, Work, keep, keep_waiting};
 use calls::limits::MIN_AREA;
 use calls::{Call, Kind, Refusal, Reply};
 use disk_model::MemDisk;
+use fizgaloms::{Attempt, NOTHING_FOUND, Patience, Transaction, Work, keep, keep_waiting};
 use gate_block::layout::AREAS_AT;
 use recovery::format;
 use std::alloc::{AllocGlobal, Global};
@@ -109,7 +109,7 @@ fn jobs_of<R: Threads + Wait + Clock + AllocGlobal + Sync>(
     disk: MemDisk,
     handing: &Handing,
 ) -> Result<Vec<u64>, Refusal> {
-    let (answers, _closed) = background::run(rt, disk, handing, 2);
+    let (answers, _closed) = fizgaloms::run(rt, disk, handing, 2);
     given(rt.alloc(), answers?)
 }
 

@@ -1,5 +1,5 @@
 use Rattle.std.proofs.Common.{◌≡◌}
-use Rattle.arguments.specs.declared.Task.{Task}
+use Rattle.boost.specs.declared.arguments.Task.{Task}
 use Rattle.boost.proofs.EffectLemmas.{other_undone, play_undone}
 use Rattle.boost.proofs.commands.perform.Goals as goal
 

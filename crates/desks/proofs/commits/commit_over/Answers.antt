@@ -3,12 +3,12 @@ use Rattle.std.proofs.lemmas.Result.{err_from_is_err_and}
 use Rattle.calls.specs.Transactions.{own, laters_of}
 use Rattle.undo_log.specs.Entries.{stamped_entry}
 use Rattle.catalog.specs.Fours.{Which, First, Second, Third, Fourth, rank, pick}
-use Rattle.shelf.specs.Shelves.{CanRun, on_quarter, Settles}
-use Rattle.record_format.specs.Short.{AreShort}
-use Rattle.machine.specs.Wholes.{AccountsState, whole_state}
-use Rattle.machine.proofs.BookLaws.{BookLaws, book_laws}
-use Rattle.machine.proofs.InvariantRows.{commit_fits}
-use Rattle.machine.proofs.Joining.{ready_join}
+use Rattle.steps.specs.Shelves.{CanRun, on_quarter, Settles}
+use Rattle.records.specs.Short.{AreShort}
+use Rattle.steps.specs.Wholes.{TransactionsState, whole_state}
+use Rattle.steps.proofs.BookLaws.{BookLaws, book_laws}
+use Rattle.steps.proofs.InvariantRows.{commit_fits}
+use Rattle.steps.proofs.Joining.{ready_join}
 use Rattle.txn.specs.Shelved.{IsIdle, IsUntouched}
 use Rattle.txn.proofs.JournalEnds.{commit_book}
 use Rattle.txn.proofs.Untouched.{idle_there}
@@ -37,8 +37,8 @@ settle_all-ran-requires-clause-known g c =
     let known = c.requires.known.1 in
     let running = c.in_ok-place.ensures.running in
     let noted = c.entries_of.ensures ∙
-    ap (λ (a : AccountsState). own n a.entries) c.in_ok-place.ensures.accounts in
-    let idle : (w : Which) → IsUntouched w n j.accounts.entries → IsIdle (pick f w) n
+    ap (λ (a : TransactionsState). own n a.entries) c.in_ok-place.ensures.transactions in
+    let idle : (w : Which) → IsUntouched w n j.transactions.entries → IsIdle (pick f w) n
     (on_quarter (rank w) (laters_of (map stamped_entry c.entries_of.result.now))) =
     λ w none. subst (λ es. IsIdle (pick f w) n (on_quarter (rank w) (laters_of es))) (sym noted)
     (idle_there w j f n known.book running none) in (
@@ -46,7 +46,8 @@ settle_all-ran-requires-clause-known g c =
       known.leads,
       λ w. subst (λ es. CanRun g.B.Shelf.Boosted.meaning (on_quarter (rank w) (laters_of es))
           (pick f w).now) (sym noted)
-          (ready_join g.met.B.Parts.shelf_laws (laws g) j.names j.accounts f f n known.book.joined
+          (ready_join g.met.B.Parts.shelf_laws (laws g) j.names j.transactions f f n
+          known.book.joined
           running.live running.standing w),
       λ none. idle First (c.requires.first none),
       λ none. idle Second (c.requires.second none),
@@ -59,12 +60,12 @@ finish-requires g c =
     let j = c.args.journal.now in
     let n = c.args.handle.number in
     let noted = c.entries_of.ensures ∙
-    ap (λ (a : AccountsState). own n a.entries) c.in_ok-place.ensures.accounts in
+    ap (λ (a : TransactionsState). own n a.entries) c.in_ok-place.ensures.transactions in
     let ran = c.settle_all-ran.ensures.count ∙ ap (λ es. length (laters_of es)) noted in
-    let same = ap (λ (a : AccountsState). a.wear) c.in_ok-place.ensures.accounts in
+    let same = ap (λ (a : TransactionsState). a.wear) c.in_ok-place.ensures.transactions in
     let fits = commit_fits g.B.Boosted.meaning g.B.Parts.making
     (λ f s. AreShort f (g.B.Parts.collections s)) (laws g)
-    (whole_state g.B.Parts.whole j.names j.accounts c.requires.known.0)
+    (whole_state g.B.Parts.whole j.names j.transactions c.requires.known.0)
     c.requires.known.1.book.kept.upheld n in
     omega arith
 
@@ -72,11 +73,12 @@ pub returns : goal.returns
 returns g c f known =
     let n = c.args.handle.number in
     let told = c.in_ok-place.ensures in
-    let noted = c.entries_of.ensures ∙ ap (λ (a : AccountsState). own n a.entries) told.accounts in
+    let noted = c.entries_of.ensures ∙
+    ap (λ (a : TransactionsState). own n a.entries) told.transactions in
     let settled = c.settle_all-ran.ensures.settled f known.leads in
     let done = commit_book g.met.B.Boosted.laws g.met.B.Parts.laws g.met.B.Coded.told
     g.met.B.Parts.shelf_laws c.args.journal.now c.prepare_commit.new.self c.finish.new.self
-    n c.settle_all-ran.result f settled.0 known.book told.accounts told.names c.finish.ensures
+    n c.settle_all-ran.result f settled.0 known.book told.transactions told.names c.finish.ensures
     c.in_ok-place.place told.running told.written told.place told.noted
     (c.settle_all-ran.ensures.count ∙ ap (λ es. length (laters_of es)) noted)
     (λ w. subst (λ es. Settles g.B.Shelf.Boosted.meaning (pick f w) n

@@ -3,8 +3,8 @@ use Rattle.calls.specs.Transactions.{laters_of}
 use Rattle.undo_log.specs.Entries.{stamped_entry}
 use Rattle.catalog.specs.declared.four.Four.{Four}
 use Rattle.catalog.specs.Fours.{First, Second, Third, Fourth, rank, pick}
-use Rattle.shelf.specs.Shelves.{CanRun, Settles, ShelfState, on_quarter}
-use Rattle.machine.proofs.Joining.{counts_join}
+use Rattle.steps.specs.Shelves.{CanRun, Settles, ShelfState, on_quarter}
+use Rattle.steps.proofs.Joining.{counts_join}
 use Rattle.txn.proofs.JournalEnds.{each_of}
 use Rattle.desks.proofs.Touching.{known_is, leads_each}
 use Rattle.desks.proofs.commits.settle_all.Goals as goal

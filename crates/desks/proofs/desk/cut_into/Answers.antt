@@ -1,6 +1,6 @@
 use Rattle.std.proofs.Common.{List}
 use Rattle.std.specs.Borrow.{MutBor}
-use Rattle.blocks.specs.declared.block.Block.{Block}
+use Rattle.records.specs.declared.block.Block.{Block}
 use Rattle.txn.specs.Shelved.{book_state}
 use Rattle.group_commit.specs.Ends.{Sends}
 use Rattle.group_commit.specs.Orders.{SenderState, WasFull}

@@ -1,6 +1,6 @@
 use Rattle.std.proofs.Common.{refl}
 use Rattle.std.proofs.lemmas.Result.{err_from_is_err_and}
-use Rattle.txn.specs.declared.steps.Action.{Action}
+use Rattle.txn.specs.declared.actions.Action.{Action}
 use Rattle.txn.proofs.JournalEnds.{ended_book}
 use Rattle.desks.proofs.Settling.{ended_refused, refused_known}
 use Rattle.desks.proofs.ended.end_over.Goals as goal
@@ -17,7 +17,7 @@ returns g c f known =
     let settled = c.give_up_all.ensures.settled f known.leads in
     let done = ended_book g.met.B.Boosted.laws g.met.B.Parts.laws g.met.B.Coded.told
     g.met.B.Parts.shelf_laws c.args.journal.now c.prepare_end.new.self c.finish.new.self
-    c.args.handle.number 0 f settled.0 known.book told.accounts told.names c.finish.ensures
+    c.args.handle.number 0 f settled.0 known.book told.transactions told.names c.finish.ensures
     told.live
     told.undone told.written told.noted refl settled.2 in (
       settled.0,

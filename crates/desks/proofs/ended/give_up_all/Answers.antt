@@ -1,8 +1,8 @@
 use Rattle.std.proofs.Common.{[]}
 use Rattle.catalog.specs.Fours.{pick}
-use Rattle.shelf.specs.Shelves.{Settles}
+use Rattle.steps.specs.Shelves.{Settles}
 use Rattle.catalog.specs.declared.four.Four.{Four}
-use Rattle.shelf.specs.Shelves.{ShelfState}
+use Rattle.steps.specs.Shelves.{ShelfState}
 use Rattle.txn.proofs.JournalEnds.{each_of}
 use Rattle.desks.proofs.ended.give_up_all.Goals as goal
 

@@ -1,8 +1,8 @@
 use Rattle.std.proofs.Common.{◌≡◌, [], sym, ap, ◌∙◌, subst}
 use Rattle.catalog.specs.Fours.{Which, which_of, pick, put}
 use Rattle.catalog.specs.Laws.Numbers.{pick_put}
-use Rattle.shelf.specs.Shelves.{ShelfState, Settles}
-use Rattle.machine.proofs.FourShelves.{by_shelf, pick_other, rank_is}
+use Rattle.steps.specs.Shelves.{ShelfState, Settles}
+use Rattle.steps.proofs.FourShelves.{by_shelf, pick_other, rank_is}
 use Rattle.group_commit.specs.Twins.{EndState}
 use Rattle.desks.specs.Touches.{Leads}
 use Rattle.desks.proofs.ended.give_up_on.Goals as goal

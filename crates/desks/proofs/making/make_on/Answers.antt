@@ -1,6 +1,6 @@
 use Rattle.std.proofs.Common.{◌≡◌, OnOk, refl, sym, ap, ◌∙◌, subst}
 use Rattle.catalog.specs.Fours.{which_of, pick, put}
-use Rattle.txn.specs.declared.steps.Action.{Action}
+use Rattle.txn.specs.declared.actions.Action.{Action}
 use Rattle.txn.specs.Shelved.{LeadsOn, IsOfBook, IsServed, SettlesMade}
 use Rattle.txn.proofs.BookParts.{of_book, book_told, book_kept}
 use Rattle.group_commit.specs.Twins.{EndState}

@@ -2,7 +2,7 @@ use Rattle.std.proofs.Common.{map, length, sym, refl, ap, subst, IsNone}
 use Rattle.calls.specs.Transactions.{laters_of}
 use Rattle.undo_log.specs.Entries.{stamped_entry}
 use Rattle.catalog.specs.Fours.{rank}
-use Rattle.shelf.specs.Shelves.{on_quarter}
+use Rattle.steps.specs.Shelves.{on_quarter}
 use Rattle.desks.proofs.Touching.{idles_known}
 use Rattle.desks.proofs.shelf_desk.settle_held.Goals as goal
 

@@ -2,7 +2,7 @@ use Rattle.std.proofs.Common.{◌≡◌, suc, ◌+◌, [], ◌∷◌, ◌++◌, 
 use Rattle.std.specs.List.{AllZip}
 use Rattle.catalog.specs.Fours.{which_of}
 use Rattle.catalog.specs.Holdings.{Measures}
-use Rattle.machine.specs.Wholes.{contents}
+use Rattle.steps.specs.Wholes.{contents}
 use Rattle.txn.proofs.Measuring.{one_more}
 use Rattle.desks.proofs.status.measure.Goals as goal
 

@@ -3,8 +3,8 @@ use Rattle.std.specs.List.{AllZip}
 use Rattle.catalog.specs.declared.four.Four.{Four}
 use Rattle.catalog.specs.Fours.{Which, pick}
 use Rattle.catalog.specs.Holdings.{Measures}
-use Rattle.shelf.specs.Shelves.{ShelfState}
-use Rattle.machine.specs.Wholes.{contents}
+use Rattle.steps.specs.Shelves.{ShelfState}
+use Rattle.steps.specs.Wholes.{contents}
 use Rattle.txn.specs.Shelved.{IsBook}
 use Rattle.desks.proofs.status.measure.Given as goal
 

@@ -17,11 +17,12 @@ look-requires-clause-place g c =
     (g.met.C.Boosted.laws.holds now).answered_belongs newest.at c.in-Some.call back.0 back.1.0
 
 pub returns-in_default-clause-ok : goal.returns-in_default-clause-ok
-returns-in_default-clause-ok g c = not_taken_back g.C.Boosted.meaning c.args.position
-    (event_of c.args.newest.now) c.args.collections.now (sym c.in_ok-call.ensures.ok ∙ c.in_default.is)
+returns-in_default-clause-ok g c = not_taken_back g.C.Boosted.meaning c.args.lsn
+    (event_of c.args.newest.now) c.args.collections.now
+    (sym c.in_ok-call.ensures.ok ∙ c.in_default.is)
 
 pub returns-clause-ok : goal.returns-clause-ok
-returns-clause-ok g c = taken_back_by g.C.Boosted.meaning c.args.position
+returns-clause-ok g c = taken_back_by g.C.Boosted.meaning c.args.lsn
     (event_of c.args.newest.now) c.args.collections.now c.in-Some.call
     (sym c.in_ok-call.ensures.ok ∙ c.in-Some.is) c.requires.told _ refl refl refl
     c.in_ok-reply.ensures.ok

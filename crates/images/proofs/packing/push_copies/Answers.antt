@@ -1,5 +1,5 @@
 use Rattle.std.proofs.Common.{arith}
-use Rattle.blocks.specs.Packings.{joined, Writes}
+use Rattle.records.specs.Packings.{joined, Writes}
 use Rattle.records.specs.Images.{TellsOf}
 use Rattle.images.specs.Gathers.{gathered}
 use Rattle.images.specs.Views.{copy_of, copies_of}

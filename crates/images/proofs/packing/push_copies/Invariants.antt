@@ -1,4 +1,4 @@
-use Rattle.blocks.specs.Packings.{joined}
+use Rattle.records.specs.Packings.{joined}
 use Rattle.images.specs.Gathers.{gathered}
 use Rattle.images.specs.Views.{copies_of}
 use Rattle.images.proofs.ImageRecords.{AreTold}

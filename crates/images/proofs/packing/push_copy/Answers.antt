@@ -1,5 +1,5 @@
 use Rattle.std.proofs.lemmas.Result.{on_ok_weaker}
-use Rattle.blocks.specs.Packings.{joined}
+use Rattle.records.specs.Packings.{joined}
 use Rattle.records.specs.Images.{TellsOf}
 use Rattle.images.specs.Images.{AreOf}
 use Rattle.images.proofs.ImageRecords.{can_show, tells_of, writes_as}

@@ -1,8 +1,8 @@
 use Rattle.std.proofs.Common.{None, subst, sym, ◌∙◌, ap, ◌++◌}
 use Rattle.std.specs.List.{AllByRecursion}
 use Rattle.std.proofs.lemmas.Result.{on_ok_weaker}
-use Rattle.record_format.specs.Records.{Fits}
-use Rattle.blocks.specs.Packings.{joined}
+use Rattle.records.specs.Records.{Fits}
+use Rattle.records.specs.Packings.{joined}
 use Rattle.images.specs.Gathers.{gathered}
 use Rattle.images.specs.Views.{copies_of}
 use Rattle.images.proofs.ImageRecords.{each_fits, whole_writes}
@@ -16,7 +16,7 @@ pub returns-clause-told : goal.returns-clause-told
 returns-clause-told g c =
     let f = c.args.frozen.now in
     on_ok_weaker c.push-2.result
-    (λ end. whole_writes f.marks.format f.marks.next f.marks.wear
+    (λ end. whole_writes f.image_head.format f.image_head.next f.image_head.wear
     (gathered (copies_of g.P.Part.collection c.args.copies.now)) f.live.items
     (joined c.args.packer.now) (joined c.push.new.self) (joined c.push_copies.new.packer)
     (joined c.push_records.new.packer) (joined c.push-2.new.self) c.requires.can_stand

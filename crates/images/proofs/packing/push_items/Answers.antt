@@ -4,10 +4,10 @@ use Rattle.std.specs.List.{AllByRecursion}
 use Rattle.std.proofs.lemmas.List.{append-nil}
 use Rattle.std.proofs.lemmas.Iterator.Adapters.{YieldsList-from_vec}
 use Rattle.std.proofs.lemmas.Iterator.Consumers.{YieldsList-turn, YieldsList-end}
-use Rattle.record_format.specs.declared.record.Record.{Record}
-use Rattle.record_format.specs.Records.{FitsItem}
-use Rattle.record_format.specs.Short.{IsShortItem}
-use Rattle.blocks.specs.Packings.{joined}
+use Rattle.records.specs.declared.record.Record.{Record}
+use Rattle.records.specs.Records.{FitsItem}
+use Rattle.records.specs.Short.{IsShortItem}
+use Rattle.records.specs.Packings.{joined}
 use Rattle.images.proofs.ImageRecords.{each_at, all_yielded, items_more, fits_more}
 use Rattle.images.proofs.packing.push_items.Goals as goal
 

@@ -1,8 +1,8 @@
 use Rattle.std.proofs.Common.{◌≡◌, ◌++◌, map}
 use Rattle.std.specs.List.{AllByRecursion}
-use Rattle.record_format.specs.declared.record.Record.{Record}
-use Rattle.record_format.specs.Records.{FitsItem}
-use Rattle.blocks.specs.Packings.{joined}
+use Rattle.records.specs.declared.record.Record.{Record}
+use Rattle.records.specs.Records.{FitsItem}
+use Rattle.records.specs.Packings.{joined}
 use Rattle.images.proofs.packing.push_items.Given as goal
 
 -- the items so far are written

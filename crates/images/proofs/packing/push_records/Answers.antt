@@ -1,5 +1,5 @@
 use Rattle.std.proofs.Common.{refl}
-use Rattle.blocks.specs.Packings.{joined}
+use Rattle.records.specs.Packings.{joined}
 use Rattle.images.proofs.ImageRecords.{written_this, written_one, written_all}
 use Rattle.images.proofs.packing.push_records.Goals as goal
 

@@ -1,4 +1,4 @@
-use Rattle.blocks.specs.Packings.{joined}
+use Rattle.records.specs.Packings.{joined}
 use Rattle.images.proofs.ImageRecords.{AreWritten}
 use Rattle.images.proofs.packing.push_records.Given as goal
 

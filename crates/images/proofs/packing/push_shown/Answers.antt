@@ -1,5 +1,5 @@
 use Rattle.std.proofs.lemmas.Result.{on_ok_weaker}
-use Rattle.blocks.specs.Packings.{joined}
+use Rattle.records.specs.Packings.{joined}
 use Rattle.images.proofs.ImageRecords.{each_short, shown_writes}
 use Rattle.images.proofs.packing.push_shown.Goals as goal
 

@@ -1,5 +1,5 @@
 use Rattle.std.proofs.Common.{subst}
-use Rattle.blocks.specs.Packings.{Writes}
+use Rattle.records.specs.Packings.{Writes}
 use Rattle.images.specs.Images.{TellsLive}
 use Rattle.images.proofs.ImageRecords.{live_told, live_good}
 use Rattle.images.proofs.telling.live_records.Goals as goal

@@ -1,7 +1,7 @@
 use Rattle.std.proofs.Common.{◌≡◌, ◌<◌, ◌++◌, ◌∷◌, [], refl, ◌∙◌, ap, arith}
 use Rattle.std.proofs.lemmas.Result.{on_ok_weaker}
-use Rattle.record_format.specs.declared.record.Record.{Record}
-use Rattle.record_format.specs.Records.{call_record}
+use Rattle.records.specs.declared.record.Record.{Record}
+use Rattle.records.specs.Records.{call_record}
 use Rattle.images.proofs.ImageRecords.{live_call_good, live_call_same, writes_one}
 use Rattle.images.proofs.telling.tell_call.Goals as goal
 use Rattle.calls.specs.Rules.{inverse_of}

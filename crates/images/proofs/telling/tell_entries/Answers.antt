@@ -2,11 +2,11 @@ use Rattle.calls.specs.Formats.{widest}
 use Rattle.std.proofs.Common.{◌≡◌, ℕ, map, sym, ◌∙◌, ap, subst}
 use Rattle.std.specs.List.{AllByRecursion, flat_map}
 use Rattle.calls.specs.Transactions.{Entry}
-use Rattle.record_format.specs.Records.{IsNumber}
+use Rattle.records.specs.Records.{IsNumber}
 use Rattle.undo_log.specs.Entries.{owned_entry}
-use Rattle.blocks.specs.Packings.{Writes}
+use Rattle.records.specs.Packings.{Writes}
 use Rattle.images.specs.LiveRecords.{live_record}
-use Rattle.machine.specs.Machines.{IsAskedEntry}
+use Rattle.steps.specs.Machines.{IsAskedEntry}
 use Rattle.images.proofs.ImageRecords.{logged_none, logged_this, logged_one, logged_all}
 use Rattle.images.proofs.telling.tell_entries.Goals as goal
 

@@ -1,7 +1,7 @@
 use Rattle.calls.specs.Formats.{widest}
-use Rattle.record_format.specs.Records.{IsNumber}
+use Rattle.records.specs.Records.{IsNumber}
 use Rattle.images.specs.LiveRecords.{live_record}
-use Rattle.machine.specs.Machines.{IsAskedEntry}
+use Rattle.steps.specs.Machines.{IsAskedEntry}
 use Rattle.images.proofs.ImageRecords.{AreLogged}
 use Rattle.images.proofs.telling.tell_entries.Given as goal
 

@@ -1,7 +1,7 @@
 use Rattle.std.proofs.Common.{◌≡◌, ◌<◌, ◌++◌, ◌∷◌, [], refl, ◌∙◌, ap, arith}
 use Rattle.std.proofs.lemmas.Result.{on_ok_weaker}
 use Rattle.calls.specs.declared.call.Call.{Call}
-use Rattle.record_format.specs.declared.record.Record.{Record}
+use Rattle.records.specs.declared.record.Record.{Record}
 use Rattle.images.proofs.ImageRecords.{live_later_good, writes_one}
 use Rattle.images.proofs.telling.tell_later.Goals as goal
 
@@ -16,5 +16,5 @@ returns-clause-told c =
     (told l.call) (written ∙ ap (λ v. c.args.told.now.items ++ told v ∷ [])
     c.in_ok-copy.ensures)
     (λ last. live_later_good c.args.number l.at l.call last c.requires.number few
-    c.requires.put_off) refl)
+    c.requires.deferred) refl)
     c.tell.ensures.told

@@ -1,6 +1,6 @@
 use Rattle.std.proofs.Common.{refl, arith}
-use Rattle.record_reading.proofs.RecordLaws.{Fits-read, is_found, is_only, is_unsound, is_nothing}
-use Rattle.record_reading.proofs.RecordLaws.{refuted}
+use Rattle.records.proofs.RecordLaws.{Fits-read, is_found, is_only, is_unsound, is_nothing}
+use Rattle.records.proofs.RecordLaws.{refuted}
 use Rattle.records.proofs.decoding.decode.Goals as goal
 
 pub is_sound-requires : goal.is_sound-requires

@@ -8,5 +8,5 @@ returns-clause-filled g c =
     both_ok c.write_head.result c.write_head.ensures.head c.write_head.ensures.behind
     (filled_with c.args.version c.start.result c.args.area c.args.image
     (g.D.Disk.seen c.lay_all.new.disk)
-    (g.D.Disk.seen c.write_head.new.disk) start.base start.size start.position c.requires.some
+    (g.D.Disk.seen c.write_head.new.disk) start.base start.size start.offset c.requires.some
     (g.D.Disk.seen c.args.disk.now) c.in_ok-lay_all.ensures.laid)

@@ -1,11 +1,11 @@
 use Rattle.std.proofs.Common.{◌∙◌, length, arith, ap, subst, sym}
 use Rattle.std.proofs.lemmas.Result.{err_from_is_err_and}
-use Rattle.gate_block.specs.Area.{size_of, position_of}
+use Rattle.gate_block.specs.Area.{size_of, offset_of}
 use Rattle.disk_model.specs.Disk.{Rises}
 use Rattle.recovery.specs.Openings.{IsLoadRefusal}
-use Rattle.repetition.specs.Journals.{IsHeader}
+use Rattle.replay.specs.Journals.{IsHeader}
 use Rattle.recovery.specs.Loading.{IsLoaded, StartsWithImage}
-use Rattle.undoing.proofs.Walks.{rises_before}
+use Rattle.replay.proofs.Walks.{rises_before}
 use Rattle.recovery.proofs.LoadLemmas.{Spoils}
 use Rattle.recovery.proofs.FindLemmas.{head_find_refusal, load_find_refusal, stored_there}
 use Rattle.recovery.proofs.FindLemmas.{not_starved, one_of_two}
@@ -51,7 +51,7 @@ returns-clause-found g c =
           stored_there old found.area version base size found.repeated.machine found.repeated.next
           found.repeated.count header.0 header.1 area.0 area.1
           (subst (λ b. IsLoaded version base size b found.repeated.machine found.repeated.next
-          found.repeated.count (position_of found.area)) c.area_in_use.ensures.reads.same
+          found.repeated.count (offset_of found.area)) c.area_in_use.ensures.reads.same
           (c.in_ok-repeated.ensures.loaded true_read));
       placed = record {
         fine = area.2;

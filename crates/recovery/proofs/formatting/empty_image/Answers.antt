@@ -1,6 +1,6 @@
 use Rattle.std.proofs.Common.{sym, ap, ◌∙◌}
 use Rattle.calls.specs.declared.format.Format.{Format}
-use Rattle.recovery.specs.Formats.{empty_area}
+use Rattle.recovery.specs.Formatting.{empty_area}
 use Rattle.recovery.proofs.FormatLemmas.{empty_image}
 use Rattle.recovery.proofs.formatting.empty_image.Goals as goal
 

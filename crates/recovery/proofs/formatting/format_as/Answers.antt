@@ -1,6 +1,6 @@
 use Rattle.std.proofs.Common.{sym, ◌∙◌, subst}
 use Rattle.disk_model.specs.Disk.{LeavesOnly}
-use Rattle.recovery.specs.Formats.{IsRoomFor, IsFormatting}
+use Rattle.recovery.specs.Formatting.{IsRoomFor, IsFormatting}
 use Rattle.recovery.proofs.FormatLemmas.{one_number, answer_as}
 use Rattle.recovery.proofs.formatting.format_as.Goals as goal
 

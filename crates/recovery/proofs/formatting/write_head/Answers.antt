@@ -2,7 +2,7 @@ use Rattle.std.proofs.Common.{length, drop, refl, ap, subst, sym, arith, Err, â—
 use Rattle.recovery.proofs.FormatLemmas.{past_root, past_letters, past_area, shut_past_sync}
 use Rattle.recovery.proofs.FormatLemmas.{head_written, behind_kept, letters_long, letters_short}
 use Rattle.recovery.proofs.FormatLemmas.{on_any, caused}
-use Rattle.recovery.specs.Formats.{IsHeadOf}
+use Rattle.recovery.specs.Formatting.{IsHeadOf}
 use Rattle.recovery.proofs.formatting.write_head.Goals as goal
 
 pub returns-in_err-write_at-clause-stop : goal.returns-in_err-write_at-clause-stop

@@ -1,7 +1,7 @@
 use Rattle.std.proofs.Common.{arith, rules}
 use Rattle.recovery.proofs.FormatLemmas.{byte_written, shut_at_rest, still_room, empty_store}
 use Rattle.recovery.proofs.FormatLemmas.{filling, opening, ok_then, store_or_none}
-use Rattle.recovery.specs.Formats.{IsEmptyStore}
+use Rattle.recovery.specs.Formatting.{IsEmptyStore}
 use Rattle.recovery.proofs.formatting.write_store.Goals as goal
 
 pub returns-in_err-fill-clause-stop : goal.returns-in_err-fill-clause-stop

@@ -5,7 +5,7 @@ use Rattle.std.proofs.lemmas.Result.{err_from_is_err_and}
 use Rattle.std.specs.declared.alloc.Global.{Global}
 use Rattle.disk_model.proofs.Walk.{reads_on}
 use Rattle.gate_block.specs.Row.{Finds, StandsAt}
-use Rattle.gate_block.specs.Area.{body_in, position_of}
+use Rattle.gate_block.specs.Area.{body_in, offset_of}
 use Rattle.recovery.proofs.LoadLemmas.{loading_starts, gate_refused, body_refused, loads_on}
 use Rattle.recovery.proofs.LoadLemmas.{end_refused, loads, ends_image, same_place}
 use Rattle.recovery.proofs.loading.load.Goals as goal
@@ -15,11 +15,11 @@ stands_there : (found : Option (Vec ℕ Global)) (v : Vec ℕ Global) (body byte
 stands_there found v body bytes p is value finds =
     subst (λ b. StandsAt bytes p b) (sym value) (subst (λ o. Finds bytes p (body_in o)) is finds)
 
-position_there : (found : Option (Vec ℕ Global)) (v : Vec ℕ Global) (body : List ℕ) (was now : ℕ) →
+offset_there : (found : Option (Vec ℕ Global)) (v : Vec ℕ Global) (body : List ℕ) (was now : ℕ) →
     found ≡ Some v → body ≡ v.items →
     MatchOption found (now ≡ was) (λ body. now ≡ was + 5 + length body.items) →
     now ≡ was + 5 + length body
-position_there found v body was now is value moved =
+offset_there found v body was now is value moved =
     subst (λ o. MatchOption o (now ≡ was) (λ body. now ≡ was + 5 + length body.items)) is moved ∙
     ap (λ b. was + 5 + length b) (sym value)
 
@@ -47,7 +47,7 @@ loop-body-init g c =
     g.D.Disk.is_honest g.D.Disk.fault_count c.args.disk.now c.args.version c.args.base c.args.size
     c.start-area.result _ _ _
     (g.met.D.Disk.only_now c.args.disk.now) c.start-area.ensures.base c.start-area.ensures.size
-    c.start-area.ensures.position c.start-area.ensures.failed c.new-repetition.ensures.kind
+    c.start-area.ensures.offset c.start-area.ensures.failed c.new-repetition.ensures.kind
     c.new-repetition.ensures.stage
 
 pub loop-body-preserved : goal.loop-body-preserved
@@ -58,13 +58,13 @@ loop-body-preserved g c =
     (λ true_read. stands_there c.in-Ok-Some.field-0 c.in-Ok-Some.body c.as_slice.result.now _ _
     c.in-Ok-Some.field-0-is c.as_slice.ensures.value (c.in-Ok-Some.ensures.found true_read))
     c.next_block.ensures.base c.next_block.ensures.size c.in-Ok-Some.ensures.answer.1
-    (position_there c.in-Ok-Some.field-0 c.in-Ok-Some.body c.as_slice.result.now _ _
-    c.in-Ok-Some.field-0-is c.as_slice.ensures.value c.in-Ok-Some.ensures.position)
+    (offset_there c.in-Ok-Some.field-0 c.in-Ok-Some.body c.as_slice.result.now _ _
+    c.in-Ok-Some.field-0-is c.as_slice.ensures.value c.in-Ok-Some.ensures.offset)
     (omega (arith, c.len.ensures, ap length c.as_slice.ensures.value))
-    (let moved = position_there c.in-Ok-Some.field-0 c.in-Ok-Some.body c.as_slice.result.now _ _
-    c.in-Ok-Some.field-0-is c.as_slice.ensures.value c.in-Ok-Some.ensures.position in
+    (let moved = offset_there c.in-Ok-Some.field-0 c.in-Ok-Some.body c.as_slice.result.now _ _
+    c.in-Ok-Some.field-0-is c.as_slice.ensures.value c.in-Ok-Some.ensures.offset in
     let behind : c.loop-body.place + (5 + c.len.result) - c.args.base ≡
-    position_of c.next_block.new.self =
+    offset_of c.next_block.new.self =
     omega (
       arith,
       moved,
@@ -98,7 +98,7 @@ returns-clause-loaded g c =
       c.next_block.new.self.inside,
       c.next_block.ensures.size,
       c.loop-body.invariant.size_is,
-    )) c.in-Ok-None.ensures.position _ _ _
+    )) c.in-Ok-None.ensures.offset _ _ _
     c.in_ok-repeated.ensures.ok
 
 pub returns-clause-image : goal.returns-clause-image
@@ -112,7 +112,7 @@ returns-clause-image g c =
       c.next_block.new.self.inside,
       c.next_block.ensures.size,
       c.loop-body.invariant.size_is,
-    )) c.in-Ok-None.ensures.position _ _ _
+    )) c.in-Ok-None.ensures.offset _ _ _
     c.in_ok-repeated.ensures.ok
 
 pub returns-clause-inside : goal.returns-clause-inside
@@ -121,7 +121,7 @@ returns-clause-inside g c =
       arith,
       c.loop-body.invariant.inside,
       same_place c.in-Ok-None.field-0 _ _
-          (λ v is. none-some v (sym c.in-Ok-None.field-0-is ∙ is)) c.in-Ok-None.ensures.position,
+          (λ v is. none-some v (sym c.in-Ok-None.field-0-is ∙ is)) c.in-Ok-None.ensures.offset,
     )
 
 pub next_block-requires : goal.next_block-requires
@@ -131,8 +131,8 @@ next_block-requires g c =
 pub overflow_add-place-in-Ok-Some : goal.overflow_add-place-in-Ok-Some
 overflow_add-place-in-Ok-Some g c =
     let was = c.loop-body.invariant in
-    let moved = position_there c.in-Ok-Some.field-0 c.in-Ok-Some.body c.as_slice.result.now _ _
-    c.in-Ok-Some.field-0-is c.as_slice.ensures.value c.in-Ok-Some.ensures.position in
+    let moved = offset_there c.in-Ok-Some.field-0 c.in-Ok-Some.body c.as_slice.result.now _ _
+    c.in-Ok-Some.field-0-is c.as_slice.ensures.value c.in-Ok-Some.ensures.offset in
     omega (
       arith,
       moved,
@@ -147,8 +147,8 @@ overflow_add-place-in-Ok-Some g c =
 
 pub loop-body-smaller : goal.loop-body-smaller
 loop-body-smaller g c =
-    let moved = position_there c.in-Ok-Some.field-0 c.in-Ok-Some.body c.as_slice.result.now _ _
-    c.in-Ok-Some.field-0-is c.as_slice.ensures.value c.in-Ok-Some.ensures.position in
+    let moved = offset_there c.in-Ok-Some.field-0 c.in-Ok-Some.body c.as_slice.result.now _ _
+    c.in-Ok-Some.field-0-is c.as_slice.ensures.value c.in-Ok-Some.ensures.offset in
     omega (
       arith,
       moved,

@@ -1,5 +1,5 @@
 use Rattle.std.proofs.Common.{◌-◌}
-use Rattle.gate_block.specs.Area.{position_of}
+use Rattle.gate_block.specs.Area.{offset_of}
 use Rattle.recovery.proofs.LoadLemmas.{IsLoading}
 use Rattle.recovery.proofs.loading.load.Given as goal
 
@@ -11,4 +11,4 @@ invariant-loop-body g l =
     l.repetition.next l.place l.image
 
 abbrev pub decreases-loop-body : goal.decreases-loop-body
-decreases-loop-body g l = l.fn.size - position_of l.area
+decreases-loop-body g l = l.fn.size - offset_of l.area

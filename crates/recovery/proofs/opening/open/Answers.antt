@@ -28,11 +28,11 @@ returns-in-Ok-clause-untouched g c =
     g.D.Disk.left_since c.args.disk k.disk)
     (sym c.new.ensures)
     (subst
-    (λ (b : BookState (List Collection)). g.D.Disk.is_honest c.settle.new.disk →
+    (λ (b : BookState (List Collection)). g.D.Disk.is_honest c.recover.new.disk →
     (o : IsOpened (g.D.Disk.seen c.args.disk) b c.in-Ok.field-0.area
-    (g.D.Disk.seen c.settle.new.disk)) → o.undoing ≡ [] →
+    (g.D.Disk.seen c.recover.new.disk)) → o.undoing ≡ [] →
     ReadsOnly g.D.Disk.seen g.D.Disk.may_leave g.D.Disk.moment g.D.Disk.left_since c.args.disk
-    c.settle.new.disk)
+    c.recover.new.disk)
     (sym c.book_of.ensures) c.in-Ok.ensures.untouched)
 
 pub new-requires : goal.new-requires
@@ -45,8 +45,8 @@ returns-in-Ok-clause-opened g c =
     IsOpened (g.D.Disk.seen c.args.disk) c.book_of.result k.area (g.D.Disk.seen k.disk))
     (sym c.new.ensures)
     (subst
-    (λ (b : BookState (List Collection)). g.D.Disk.is_honest c.settle.new.disk →
-    IsOpened (g.D.Disk.seen c.args.disk) b c.in-Ok.field-0.area (g.D.Disk.seen c.settle.new.disk))
+    (λ (b : BookState (List Collection)). g.D.Disk.is_honest c.recover.new.disk →
+    IsOpened (g.D.Disk.seen c.args.disk) b c.in-Ok.field-0.area (g.D.Disk.seen c.recover.new.disk))
     (sym c.book_of.ensures) c.in-Ok.ensures.opened)
 
 pub returns-in-Ok-clause-ready : goal.returns-in-Ok-clause-ready
@@ -60,7 +60,7 @@ returns-in-Ok-clause-ready g c = λ true_read before.
       at_rest = rests;
       ready = λ o. record {
         holds = o.row_is;
-        position = o.position;
+        offset = o.offset;
         at_rest = λ bytes left. ap (bytes_of c.in-Ok.field-0.area) (rests bytes left);
       };
     })

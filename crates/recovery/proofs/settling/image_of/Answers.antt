@@ -1,4 +1,4 @@
-use Rattle.blocks.proofs.Packed.{all_whole}
+use Rattle.records.proofs.Packed.{all_whole}
 use Rattle.recovery.proofs.settling.image_of.Goals as goal
 
 pub invariant_of-result : goal.invariant_of-result

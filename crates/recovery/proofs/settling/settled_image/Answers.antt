@@ -4,7 +4,7 @@ use Rattle.calls.specs.Contents.{Collection}
 use Rattle.calls.specs.Formats.{max_area, Allows}
 use Rattle.gate_block.specs.Area.{size_of}
 use Rattle.images.specs.Images.{IsPackedImage}
-use Rattle.repetition.proofs.OneFormat.{repeats_format}
+use Rattle.replay.proofs.OneFormat.{repeats_format}
 use Rattle.recovery.specs.Copies.{copied_as}
 use Rattle.recovery.proofs.CopyLemmas.{spells, some_blocks, copied_later, copied_fits}
 use Rattle.recovery.proofs.settling.settled_image.Goals as goal

@@ -1,7 +1,7 @@
 use Rattle.std.proofs.Common.{arith, refl, ◌∙◌}
 use Rattle.std.proofs.lemmas.Result.{err_from_is_err_and}
 use Rattle.disk_model.specs.Disk.{Rises}
-use Rattle.undoing.proofs.Walks.{rises_before}
+use Rattle.replay.proofs.Walks.{rises_before}
 use Rattle.recovery.proofs.FlipLemmas.{flipped_to, laid_more}
 use Rattle.recovery.proofs.UpgradeLemmas.{piecing_starts, piecing_on, goes_then, goes_image}
 use Rattle.recovery.proofs.UpgradeLemmas.{written_ready, piece_stage, piece_fine, all_written}

@@ -3,8 +3,8 @@ use Rattle.disk_model.specs.Disk.{LeavesOnly, Rises}
 use Rattle.gate_block.specs.Area.{size_of}
 use Rattle.checkpoint.specs.Keepers.{KeeperState}
 use Rattle.checkpoint.specs.Imaging.{IsTooLong}
-use Rattle.repetition.specs.Journals.{StandsFor}
-use Rattle.repetition.specs.Reading.{IsSound}
+use Rattle.replay.specs.Journals.{StandsFor}
+use Rattle.replay.specs.Reading.{IsSound}
 use Rattle.recovery.specs.Upgrades.{IsUpgraded}
 use Rattle.recovery.proofs.UpgradeLemmas.{taken_upgraded, taken_kept, taking_refusal, too_long}
 use Rattle.recovery.proofs.UpgradeLemmas.{made_fresh, still_there}
@@ -12,7 +12,7 @@ use Rattle.recovery.proofs.upgrading.write_second.Goals as goal
 
 pub returns-in-Ok-take_image-clause-upgraded : goal.returns-in-Ok-take_image-clause-upgraded
 returns-in-Ok-take_image-clause-upgraded g c = λ old o.
-    let x = c.args.settled in
+    let x = c.args.recovered in
     let k = c.new-keeper.result in
     subst (λ d. IsUpgraded old (g.D.Disk.seen d)) (sym c.into_disk.ensures)
     (taken_upgraded g.D.Disk c.args.disk old x.machine x.next x.area o c.upheld.ensures
@@ -23,7 +23,7 @@ returns-in-Ok-take_image-clause-upgraded g c = λ old o.
 
 pub returns-in-Ok-take_image-clause-kept : goal.returns-in-Ok-take_image-clause-kept
 returns-in-Ok-take_image-clause-kept g c = λ old o rest.
-    let x = c.args.settled in
+    let x = c.args.recovered in
     let k = c.new-keeper.result in
     subst (λ d. LeavesOnly g.D.Disk.moment g.D.Disk.left_since c.args.disk d
     (λ b. IsSound b × StandsFor b x.machine.now)) (sym c.into_disk.ensures)
@@ -37,7 +37,7 @@ returns-in-Ok-take_image-clause-kept g c = λ old o rest.
 pub returns-in-Err-take_image-clause-kept_in_refusal :
     goal.returns-in-Err-take_image-clause-kept_in_refusal
 returns-in-Err-take_image-clause-kept_in_refusal g c = λ old o rest.
-    let x = c.args.settled in
+    let x = c.args.recovered in
     let k = c.new-keeper.result in
     subst (λ d. LeavesOnly g.D.Disk.moment g.D.Disk.left_since c.args.disk d
     (λ b. IsSound b × StandsFor b x.machine.now)) (sym c.into_disk-in-Err-take_image.ensures)
@@ -50,7 +50,7 @@ returns-in-Err-take_image-clause-kept_in_refusal g c = λ old o rest.
 
 pub returns-in-Err-take_image-clause-refused : goal.returns-in-Err-take_image-clause-refused
 returns-in-Err-take_image-clause-refused g c =
-    let x = c.args.settled in
+    let x = c.args.recovered in
     let k = c.new-keeper.result in
     let area = ap (λ (k : KeeperState g.row.D.Denot). k.area) c.new-keeper.ensures in
     let disk = ap (λ (k : KeeperState g.row.D.Denot). k.disk) c.new-keeper.ensures in
@@ -66,8 +66,8 @@ returns-in-Err-take_image-clause-refused g c =
 
 pub returns-in-Err-clause-kept_in_refusal : goal.returns-in-Err-clause-kept_in_refusal
 returns-in-Err-clause-kept_in_refusal g c = λ old o rest.
-    still_there g.D.Disk c.args.disk old c.args.settled.machine c.args.settled.next
-    c.args.settled.area o (g.met.D.Disk.only_now c.args.disk) rest
+    still_there g.D.Disk c.args.disk old c.args.recovered.machine c.args.recovered.next
+    c.args.recovered.area o (g.met.D.Disk.only_now c.args.disk) rest
 
 pub returns-in-Err-take_image-clause-unwritten : goal.returns-in-Err-take_image-clause-unwritten
 returns-in-Err-take_image-clause-unwritten g c = λ no_fault.

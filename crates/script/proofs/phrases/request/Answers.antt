@@ -1,5 +1,5 @@
 use Rattle.std.proofs.Common.{rules}
-use Rattle.script.proofs.ScriptPhrases.{called_gives, put_off_gives, made_gives}
+use Rattle.script.proofs.ScriptPhrases.{called_gives, deferred_gives, made_gives}
 use Rattle.script.proofs.phrases.request.Goals as goal
 
 pub returns-in-Some : goal.returns-in-Some
@@ -7,8 +7,9 @@ returns-in-Some c = called_gives c.called.result c.args.text.now c.in-Some.rest.
     c.in-Some.ensures.some c.called.ensures
 
 pub returns-in-Some-behind : goal.returns-in-Some-behind
-returns-in-Some-behind c = put_off_gives c.put_off.result c.args.text.now c.in-Some-behind.rest.now
-    c.in-Some-behind.ensures.some c.put_off.ensures
+returns-in-Some-behind c = deferred_gives c.deferral.result c.args.text.now
+    c.in-Some-behind.rest.now
+    c.in-Some-behind.ensures.some c.deferral.ensures
 
 pub returns-in-Some-behind-2 : goal.returns-in-Some-behind-2
 returns-in-Some-behind-2 c = made_gives c.made.result c.args.text.now c.in-Some-behind-2.rest.now

@@ -1,6 +1,7 @@
 use Rattle.std.proofs.Common.{◌∙◌, ap, subst, sym}
 use Rattle.images.specs.Gathers.{Packs}
-use Rattle.group_commit.specs.Accords.{AccordState, nothing_gathered}
+use Rattle.group_commit.specs.Accords.{AccordState}
+use Rattle.images.specs.Gathers.{nothing_gathered}
 use Rattle.group_commit.specs.Marks.{KeeperMark}
 use Rattle.store.specs.Turns.{stops_behind}
 use Rattle.store.specs.Vaults.{IsVault}

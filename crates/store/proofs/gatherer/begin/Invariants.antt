@@ -1,4 +1,4 @@
-use Rattle.group_commit.specs.Accords.{nothing_gathered}
+use Rattle.images.specs.Gathers.{nothing_gathered}
 use Rattle.store.proofs.gatherer.begin.Given as goal
 
 -- nothing is frozen then

@@ -1,8 +1,8 @@
-use Rattle.std.proofs.Common.{◌≡◌, ◌∙◌, None, Ok, Err, refl, sym, subst, ap}
+use Rattle.std.proofs.Common.{◌≡◌, ◌∙◌, ◌⊎◌, None, Ok, Err, refl, sym, subst, ap}
 use Rattle.std.proofs.lemmas.Result.{err_from_is_err_and}
 use Rattle.atomic_table.specs.Seated.{TableId}
-use Rattle.images.specs.Gathers.{GatherState}
-use Rattle.txn.specs.declared.steps.Action.{Action}
+use Rattle.images.specs.Gathers.{GatherState, nothing_gathered}
+use Rattle.txn.specs.declared.actions.Action.{Action}
 use Rattle.txn.specs.Shelved.{book_state}
 use Rattle.checkpoint.specs.Keepers.{KeeperState}
 use Rattle.group_commit.specs.Accords.{AccordState}
@@ -13,13 +13,14 @@ use Rattle.desks.specs.Notes.{alone}
 use Rattle.desks.specs.Told.{told_book}
 use Rattle.desks.specs.Touches.{IsJournalDesk}
 use Rattle.desks.proofs.Owning.{drawn_beside}
-use Rattle.store.specs.Gatherers.{Froze}
+use Rattle.store.specs.Gatherers.{Froze, left_gathered}
 use Rattle.store.specs.Turns.{IsFreezeRefusal, FailsWith, stops_behind}
 use Rattle.store.specs.Vaults.{IsVault, Awaits}
 use Rattle.store.proofs.Causes.{froze_caused}
 use Rattle.store.proofs.VaultSteps.{vault_notes}
 use Rattle.store.proofs.Awaiting.{awaits_frozen, froze_not}
-use Rattle.store.proofs.Copied.{gathered_there, frozen_on, froze_same, froze_refused, froze_some}
+use Rattle.store.proofs.Copied.{gathered_there, frozen_on, froze_left, froze_held, froze_refused}
+use Rattle.store.proofs.Copied.{froze_some}
 use Rattle.store.proofs.Freezes.{desk_kept, freeze_refused, freeze_held}
 use Rattle.store.proofs.gatherer.freeze.Given.{Over}
 use Rattle.store.proofs.gatherer.freeze.Goals as goal
@@ -43,8 +44,9 @@ refused : (g : Over) (c : goal.After-from_residual g) →
     × IsVault g.J.Naming g.D.Disk c.freeze_journal-frozen.new.keeper c.vault.inside.receiver
     c.failure_told.new.seat c.vault.inside.near
     × Awaits c.freeze_journal-frozen.new.keeper.stage c.vault.inside.near.gather
-    × (c.freeze_journal-frozen.new.gather.frozen ≡ None →
-    c.freeze_journal-frozen.new.gather ≡ c.args.gather.now)
+    × ((c.freeze_journal-frozen.new.gather.frozen ≡ None) ×
+    ((c.freeze_journal-frozen.new.gather ≡ c.args.gather.now)
+    ⊎ (c.freeze_journal-frozen.new.gather ≡ nothing_gathered)))
     × IsFreezeRefusal c.in_err-frozen.field-0.0
 refused g c =
     let i = c.desk.inside in
@@ -54,19 +56,23 @@ refused g c =
     let l = c.freeze_journal-frozen.new.journal in
     let k = c.freeze_journal-frozen.new.keeper in
     let m = c.args.gather.now in
-    let n = c.freeze_journal-frozen.new.gather in
     let b = told_book g.B.Parts.collections (book_state g.B.Parts.whole i.journal d.shelves) in
     let a = told_book g.B.Parts.collections (book_state g.B.Parts.whole l d.shelves) in
-    let said = c.freeze_journal-frozen.ensures.froze d.shelves d.known.book (gathered_there g.J.Naming
+    let said = c.freeze_journal-frozen.ensures.froze d.shelves d.known.book
+    (gathered_there g.J.Naming
     i.journal i.nears i.seat i.sender i.near d c.args.of_book.now m c.compare.ensures.same
     c.requires.known c.requires.unfrozen) in
-    let froze = subst (λ r. Froze g.D.Disk b v.keeper m said.0 r a k n) c.in_err-frozen.was said.1
+    let n = said.1 in
+    let froze = subst (λ r. Froze g.D.Disk b v.keeper m said.0 r a k n) c.in_err-frozen.was said.2
     in
+    let left = subst (λ r. c.freeze_journal-frozen.new.gather ≡ left_gathered said.0 r n)
+    c.in_err-frozen.was said.3 in
     let both = freeze_refused g.J.Naming g.D.Disk b i.seat i.sender i.near d.desk v.keeper
     v.receiver v.mark v.near c.vault.invariant.0 c.compare-2.ensures.order.0
     c.compare-2.ensures.order.1 c.compare-2.ensures.noted
     (desk_kept g.J.Naming g.met.B.Coded.told _
-    (book_state g.B.Parts.whole i.journal d.shelves) i.seat i.sender i.near d.desk d.known.book.kept)
+    (book_state g.B.Parts.whole i.journal d.shelves) i.seat i.sender i.near d.desk
+    d.known.book.kept)
     m n said.0 e a k c.note_alone.new.seat froze
     (subst (λ r. c.note_alone.new.seat ≡ stepped i.seat (alone (Action.Freeze r)))
     c.in_err-frozen.was c.note_alone.ensures.book) in (
@@ -76,18 +82,20 @@ refused g c =
       subst (λ (s : KeeperMark). IsVault g.J.Naming g.D.Disk k v.receiver s v.near)
           (sym c.failure_told.ensures.seat) (vault_notes g.D.Disk g.J.Naming k v.receiver v.mark
           v.near both.1 (stops_behind c.freeze_journal-frozen.result v.mark.stops)
-          (froze_caused g.D.Disk b a v.keeper k m n said.0 c.freeze_journal-frozen.result said.1
+          (froze_caused g.D.Disk b a v.keeper k m n said.0 c.freeze_journal-frozen.result said.2
           v.mark.stops c.vault.invariant.0.caused)),
       subst (λ (k : KeeperState _). Awaits k.stage v.near.gather)
           (sym (froze_not g.D.Disk b v.keeper m n said.0 e a k froze)) c.vault.invariant.1,
-      froze_same g.D.Disk b a v.keeper k m n said.0 e froze,
+      froze_left g.D.Disk b a v.keeper k m n c.freeze_journal-frozen.new.gather said.0 e froze
+          c.requires.unfrozen left,
       froze_refused g.D.Disk b a v.keeper k m n said.0 e froze,
     )
 
 pub returns-in_err-frozen-clause-err : goal.returns-in_err-frozen-clause-err
 returns-in_err-frozen-clause-err g c =
     let p = err_from_is_err_and c.from_residual.result c.from_residual.ensures.1 in
-    rw p.1 (refl, (refused g c).3)
+    let left = (refused g c).3 in
+    rw p.1 (refl, left.0, left.1)
 
 pub returns-in_err-frozen-clause-watcher : goal.returns-in_err-frozen-clause-watcher
 returns-in_err-frozen-clause-watcher g c =
@@ -146,15 +154,21 @@ held g c =
     let n = c.freeze_journal-frozen.new.gather in
     let b = told_book g.B.Parts.collections (book_state g.B.Parts.whole i.journal d.shelves) in
     let a = told_book g.B.Parts.collections (book_state g.B.Parts.whole l d.shelves) in
-    let said = c.freeze_journal-frozen.ensures.froze d.shelves d.known.book (gathered_there g.J.Naming
+    let said = c.freeze_journal-frozen.ensures.froze d.shelves d.known.book
+    (gathered_there g.J.Naming
     i.journal i.nears i.seat i.sender i.near d c.args.of_book.now m c.compare.ensures.same
     c.requires.known c.requires.unfrozen) in
-    let froze = subst (λ r. Froze g.D.Disk b v.keeper m said.0 r a k n) c.in_ok-frozen.was said.1 in
+    let was = subst (λ r. Froze g.D.Disk b v.keeper m said.0 r a k said.1) c.in_ok-frozen.was
+    said.2 in
+    let left = subst (λ r. n ≡ left_gathered said.0 r said.1) c.in_ok-frozen.was said.3 in
+    let froze = subst (λ x. Froze g.D.Disk b v.keeper m said.0 (Ok tt) a k x)
+    (sym (froze_held g.D.Disk b a v.keeper k m said.1 n said.0 was left)) was in
     let both = freeze_held g.J.Naming g.D.Disk b i.seat i.sender i.near d.desk v.keeper v.receiver
     v.mark v.near c.vault.invariant.0 c.compare-2.ensures.order.0 c.compare-2.ensures.order.1
     c.compare-2.ensures.noted
     (desk_kept g.J.Naming g.met.B.Coded.told _
-    (book_state g.B.Parts.whole i.journal d.shelves) i.seat i.sender i.near d.desk d.known.book.kept)
+    (book_state g.B.Parts.whole i.journal d.shelves) i.seat i.sender i.near d.desk
+    d.known.book.kept)
     m n said.0 a k c.note_alone.new.seat froze
     (subst (λ r. c.note_alone.new.seat ≡ stepped i.seat (alone (Action.Freeze r)))
     c.in_ok-frozen.was c.note_alone.ensures.book) in (
@@ -166,7 +180,7 @@ held g c =
           (vault_notes g.D.Disk g.J.Naming k (noting_too v.receiver n) v.mark
           (record { table = v.near.table; gather = n }) both.1
           (stops_behind c.freeze_journal-frozen.result v.mark.stops)
-          (froze_caused g.D.Disk b a v.keeper k m n said.0 c.freeze_journal-frozen.result said.1
+          (froze_caused g.D.Disk b a v.keeper k m said.1 said.0 c.freeze_journal-frozen.result said.2
           v.mark.stops c.vault.invariant.0.caused)),
       awaits_frozen g.D.Disk b v.keeper m n said.0 a k froze,
       froze_some g.D.Disk b a v.keeper k m n said.0 froze,

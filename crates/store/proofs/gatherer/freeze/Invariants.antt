@@ -1,4 +1,4 @@
-use Rattle.txn.specs.declared.steps.Action.{Action}
+use Rattle.txn.specs.declared.actions.Action.{Action}
 use Rattle.desks.specs.Notes.{alone}
 use Rattle.store.proofs.gatherer.freeze.Given as goal
 

@@ -28,8 +28,8 @@ step g c more answered noted =
     ∙ ap (λ (x : Line). take i lines ++ x ∷ []) (sym c.line-item.is) in
     subst (λ (ls : List Line). CarriesOut o c.args.number start ls
     c.match-answer.answers.items new) (sym one_more)
-    (subst (λ (said : List Answer). CarriesOut o c.args.number start (take i lines ++ line ∷ [])
-    said new) (sym noted)
+    (subst (λ (response : List Answer). CarriesOut o c.args.number start (take i lines ++ line ∷ [])
+    response new) (sym noted)
     (carries_on o c.args.number start (session c.loop-line.client c.loop-line.ticket) new
     (take i lines) line c.loop-line.answers.items more c.loop-line.invariant answered))
 

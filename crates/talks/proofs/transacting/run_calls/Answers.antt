@@ -13,12 +13,12 @@ returns-then-is_refusal g c =
       take i calls,
       c.call-item.result,
       drop (i + 1) calls,
-      c.loop-call.saids.items,
+      c.loop-call.responses.items,
       c.loop-call.speaker,
-      c.say-said.result,
+      c.say-response.result,
       parts_at g.S.Speaker calls i c.call-item.result c.loop-call-test.true c.call-item.is,
       c.loop-call.invariant,
-      c.say-said.ensures,
+      c.say-response.ensures,
       (refl, search rules),
     )
 
@@ -29,12 +29,12 @@ returns-in_default g c =
       take i calls,
       c.call-item.result,
       drop (i + 1) calls,
-      c.loop-call.saids.items,
+      c.loop-call.responses.items,
       c.loop-call.speaker,
-      c.say-said.result,
+      c.say-response.result,
       parts_at g.S.Speaker calls i c.call-item.result c.loop-call-test.true c.call-item.is,
       c.loop-call.invariant,
-      c.say-said.ensures,
+      c.say-response.ensures,
       tt,
     )
 
@@ -47,8 +47,10 @@ loop-call-preserved g c =
     take_more calls i c.call-item.result c.loop-call-test.true
     ∙ ap (λ (r : Request). take i calls ++ r ∷ []) (sym c.call-item.is) in
     subst (λ (rs : List Request). RunsCalls g.S.Speaker c.args.speaker.now rs c.push.new.self.items
-    c.say-said.new.self) (sym more) (subst (λ saids. RunsCalls g.S.Speaker c.args.speaker.now
-    (take i calls ++ c.call-item.result ∷ []) saids c.say-said.new.self) (sym c.in-Ok.ensures.items)
-    (runs_on g.S.Speaker c.args.speaker.now l.speaker c.say-said.new.self (take i calls)
-    c.call-item.result l.saids.items c.say-said.result l.invariant c.say-said.ensures
+    c.say-response.new.self) (sym more)
+    (subst (λ responses. RunsCalls g.S.Speaker c.args.speaker.now
+    (take i calls ++ c.call-item.result ∷ []) responses c.say-response.new.self)
+    (sym c.in-Ok.ensures.items)
+    (runs_on g.S.Speaker c.args.speaker.now l.speaker c.say-response.new.self (take i calls)
+    c.call-item.result l.responses.items c.say-response.result l.invariant c.say-response.ensures
     (search rules)))

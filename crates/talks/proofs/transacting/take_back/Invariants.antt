@@ -4,4 +4,5 @@ use Rattle.talks.proofs.transacting.take_back.Given as goal
 
 abbrev pub invariant-loop : goal.invariant-loop
 invariant-loop g l =
-    (saids : List _) × AreTried g.S.Speaker l.fn.speaker saids l.speaker × (length saids ≡ l.counter)
+    (responses : List _) × AreTried g.S.Speaker l.fn.speaker responses l.speaker ×
+    (length responses ≡ l.counter)

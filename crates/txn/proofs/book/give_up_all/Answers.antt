@@ -1,6 +1,6 @@
 use Rattle.std.proofs.Common.{[], sym}
 use Rattle.catalog.specs.Fours.{pick}
-use Rattle.shelf.specs.Shelves.{Settles}
+use Rattle.steps.specs.Shelves.{Settles}
 use Rattle.txn.proofs.JournalEnds.{each_of}
 use Rattle.txn.proofs.book.give_up_all.Goals as goal
 

@@ -2,8 +2,8 @@ use Rattle.std.proofs.Common.{map, arith}
 use Rattle.calls.specs.Transactions.{laters_of}
 use Rattle.undo_log.specs.Entries.{stamped_entry}
 use Rattle.catalog.specs.Fours.{First, Second, Third, Fourth, rank, pick}
-use Rattle.shelf.specs.Shelves.{Settles, on_quarter}
-use Rattle.machine.proofs.Joining.{counts_join}
+use Rattle.steps.specs.Shelves.{Settles, on_quarter}
+use Rattle.steps.proofs.Joining.{counts_join}
 use Rattle.txn.proofs.JournalEnds.{each_of}
 use Rattle.txn.proofs.book.settle_all.Goals as goal
 

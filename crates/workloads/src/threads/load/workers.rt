@@ -1,8 +1,8 @@
 // What the clients do.
 use crate::asking::ask;
 use crate::threads::load::requests::{Asked, all_calls, calls_of};
-use background::{Attempt, Transaction, Work, keep};
 use calls::{Call, Kind, Refusal, Reply};
+use fizgaloms::{Attempt, Transaction, Work, keep};
 use std::alloc::{AllocError, AllocGlobal, Global};
 use std::rt::Clock;
 use std::sync::Wait;

@@ -4,8 +4,8 @@ use Rattle.std.proofs.Common.{if◌then◌else◌, true≢false}
 use Rattle.std.proofs.lemmas.List.{take_all}
 use Rattle.std.specs.List.{zip}
 use Rattle.calls.specs.Transactions.{Leads}
-use Rattle.repetition.proofs.Lists.{leads_push}
-use Rattle.world.specs.declared.steps.Answer.{Answer}
+use Rattle.replay.proofs.Lists.{leads_push}
+use Rattle.world.specs.declared.step.Answer.{Answer}
 use Rattle.world.specs.OneStep.{parts, TakesStep}
 use Rattle.world.proofs.PlayLemmas.{zip-more, one_history, past_goes_on, moments_of, answered_of}
 use Rattle.world.proofs.PlayLemmas.{drawn_of, moves_of, honest_of}

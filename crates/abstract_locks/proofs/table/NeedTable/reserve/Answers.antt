@@ -53,7 +53,8 @@ returns-in_err-reserve-clause-succeeds c had =
     let room = had_room c.self.inside.collections.items c.reach.new.collections.items
     c.reach.ensures.alike c.from-place.result c.in_ok-reach.ensures.reached c.index_mut.result.now
     c.reserve.new.self c.index_mut.ensures.value c.reserve.ensures.holds
-    c.self.inside.owners.ready c.args.self.now c.args.col c.self.view_is had c.from-place.ensures in
+    c.self.inside.owners.ready c.args.self.now c.args.collection c.self.view_is had
+    c.from-place.ensures in
     let wrong = c.in_err-reserve.ensures.succeeds room.0 in cc
 
 pub returns-in_err-reserve-clause-unchanged : goal.returns-in_err-reserve-clause-unchanged
@@ -74,13 +75,14 @@ invariant_of-self-2 c =
 
 pub returns-clause-room : goal.returns-clause-room
 returns-clause-room c =
-    let fits = c.ranges.col.fits in
+    let fits = c.ranges.collection.fits in
     let ds = c.reach.new.collections.items in
     let i = c.from-place.result in
     let new = c.reserve.new.self in
     on_ok_weaker c.reserve-2.result
-    (λ ready. subst (λ b. 0 < slice_index (rooms (set ds i new) b) c.args.col) (sym ready)
-    (room_set ds i c.args.col new c.from-place.ensures c.in_ok-reach.ensures.reached (omega arith)
+    (λ ready. subst (λ b. 0 < slice_index (rooms (set ds i new) b) c.args.collection) (sym ready)
+    (room_set ds i c.args.collection new c.from-place.ensures c.in_ok-reach.ensures.reached
+    (omega arith)
     c.in_ok-reserve.ensures.room))
     c.reserve-2.ensures.ready
 
@@ -109,7 +111,8 @@ returns-clause-succeeds c had =
     let room = had_room c.self.inside.collections.items c.reach.new.collections.items
     c.reach.ensures.alike c.from-place.result c.in_ok-reach.ensures.reached c.index_mut.result.now
     c.reserve.new.self c.index_mut.ensures.value c.reserve.ensures.holds
-    c.self.inside.owners.ready c.args.self.now c.args.col c.self.view_is had c.from-place.ensures in
+    c.self.inside.owners.ready c.args.self.now c.args.collection c.self.view_is had
+    c.from-place.ensures in
     c.reserve-2.ensures.succeeds room.1
 
 pub returns-clause-unchanged : goal.returns-clause-unchanged

@@ -3,9 +3,9 @@ use Rattle.std.proofs.Common.{Option, None, Err, List, ℕ, length, rules}
 use Rattle.calls.specs.declared.refusal.Refusal.{Refusal}
 use Rattle.disk_model.specs.Disk.{Rises}
 use Rattle.gate_block.specs.declared.area.Area.{Area}
-use Rattle.gate_block.specs.Area.{has_failed, size_of, position_of}
+use Rattle.gate_block.specs.Area.{has_failed, size_of, offset_of}
 use Rattle.gate_block.specs.Answers.{IsAppendAnswer}
-use Rattle.blocks.specs.declared.block.Block.{Block}
+use Rattle.records.specs.declared.block.Block.{Block}
 use Rattle.checkpoint.specs.Keepers.{KeeperState, AppendAnswers}
 use Rattle.checkpoint.proofs.keeper.Keeper.append.Goals as goal
 
@@ -43,7 +43,7 @@ module _ {D : Type 0} (count : D → ℕ) (k : KeeperState D) (e : Refusal) (are
   abbrev Faulted : KeeperState D → Type 0
   Faulted now =
       now.failed ≡ false → now.held ≡ None →
-      AppendAnswers block now.mark (size_of now.area < position_of now.area + length
+      AppendAnswers block now.mark (size_of now.area < offset_of now.area + length
       block.bytes.items) ((area ≡ now.area) × (disk ≡ now.disk))
       (Rises (count now.disk) (count disk)) (Err e) k.held k.mark true
 
@@ -52,14 +52,14 @@ module _ {D : Type 0} (count : D → ℕ) (k : KeeperState D) (e : Refusal) (are
       (k.failed ≡ false → has_failed k.area ≡ false) → (e ≡ Refusal.Full → ⊥) → (bytes : List ℕ) →
       bytes ≡ block.bytes.items →
       IsAppendAnswer (has_failed k.area) (has_failed area)
-      (size_of k.area < position_of k.area + length bytes) (Rises (count k.disk) (count disk))
+      (size_of k.area < offset_of k.area + length bytes) (Rises (count k.disk) (count disk))
       (Err e) → Faulted now
   keeper_faulted now is same not_full bytes bytes_are answer =
       let here = subst (λ (l : List ℕ). IsAppendAnswer (has_failed k.area) (has_failed area)
-      (size_of k.area < position_of k.area + length l) (Rises (count k.disk) (count disk))
+      (size_of k.area < offset_of k.area + length l) (Rises (count k.disk) (count disk))
       (Err e)) bytes_are answer in
       subst Faulted is (λ fine none. faulted e (has_failed k.area) (has_failed area)
-      (size_of k.area < position_of k.area + length block.bytes.items) _ _ block k.mark k.mark
+      (size_of k.area < offset_of k.area + length block.bytes.items) _ _ block k.mark k.mark
       k.held here (same fine) not_full none refl)
 
 pub returns-in_default-clause-answer : goal.returns-in_default-clause-answer

@@ -1,8 +1,8 @@
 use Rattle.std.proofs.Common.{◌<◌, ◌+◌, length, refl, subst, rules}
 use Rattle.disk_model.specs.Disk.{Rises}
-use Rattle.gate_block.specs.Area.{size_of, position_of}
+use Rattle.gate_block.specs.Area.{size_of, offset_of}
 use Rattle.gate_block.specs.Row.{IsBlockOf}
-use Rattle.blocks.specs.declared.block.Block.{Block}
+use Rattle.records.specs.declared.block.Block.{Block}
 use Rattle.checkpoint.proofs.Turning.{brought, brought_once, laid_on}
 use Rattle.checkpoint.proofs.TurnKeeping.{turn_still, turn_brings}
 use Rattle.checkpoint.proofs.keeper.Keeper.turn.Goals as goal
@@ -35,7 +35,7 @@ returns-in-Some-clause-crash g c =
     (λ bs. g.I.Inbox.receives c.args.inbox.now bs c.next_block.new.inbox)
     (g.met.I.Inbox.receives_one_list c.args.inbox.now c.next_block.new.inbox) _ c.in-Some.block
     c.bring.new.self
-    (size_of c.self.inside.area < position_of c.self.inside.area + length
+    (size_of c.self.inside.area < offset_of c.self.inside.area + length
     c.in-Some.block.bytes.items)
     (Rises (g.D.Disk.fault_count c.self.inside.disk) (g.D.Disk.fault_count c.bring.new.self.disk))
     c.if-self.false c.in-Some.ensures.some c.bring.result

@@ -2,7 +2,7 @@ use Rattle.std.proofs.Common.{refl, sym, subst, List, ℕ}
 use Rattle.std.proofs.lemmas.Result.{err_from_is_err_and}
 use Rattle.gate_block.specs.Row.{IsBlockOf}
 use Rattle.gate_block.specs.Area.{has_failed}
-use Rattle.blocks.specs.Wholes.{body_of}
+use Rattle.records.specs.Wholes.{body_of}
 use Rattle.checkpoint.specs.Imaging.{left_of}
 use Rattle.checkpoint.proofs.Blocks.{next_is, whole_rest, whole_next, laid_next, no_more_room}
 use Rattle.checkpoint.proofs.Blocks.{only_fault}

@@ -1,8 +1,8 @@
 use Rattle.std.proofs.Common.{subst, refl}
 use Rattle.std.proofs.lemmas.Option.{IfSome_then}
-use Rattle.shelf.specs.Looks.{IsLooked}
-use Rattle.txn.specs.declared.steps.Action.{Action}
-use Rattle.txn.specs.declared.steps.Target.{Target}
+use Rattle.steps.specs.Looks.{IsLooked}
+use Rattle.txn.specs.declared.actions.Action.{Action}
+use Rattle.txn.specs.declared.actions.Target.{Target}
 use Rattle.clients.proofs.Phases.{does_refused}
 use Rattle.clients.proofs.Seeing.{entered_number}
 use Rattle.clients.proofs.Visits.{entered_own, tried_client, took_on}

@@ -1,5 +1,5 @@
 use Rattle.std.proofs.Common.{Ok, Err, refl, subst}
-use Rattle.txn.specs.declared.steps.Action.{Action}
+use Rattle.txn.specs.declared.actions.Action.{Action}
 use Rattle.desks.specs.Seen.{Steps}
 use Rattle.clients.proofs.Visits.{entered_own, stays, steps_on, took_on, took_last}
 use Rattle.clients.proofs.client.Client.commit_held.Goals as goal

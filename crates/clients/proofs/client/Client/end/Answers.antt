@@ -1,5 +1,5 @@
 use Rattle.std.proofs.Common.{false, Ok, inl}
-use Rattle.txn.specs.declared.steps.Action.{Action}
+use Rattle.txn.specs.declared.actions.Action.{Action}
 use Rattle.clients.specs.Calls.{back, backs}
 use Rattle.clients.proofs.Seeing.{acts_next}
 use Rattle.clients.proofs.client.Client.end.Goals as goal

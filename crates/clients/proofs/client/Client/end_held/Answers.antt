@@ -1,5 +1,5 @@
 use Rattle.std.proofs.Common.{Err, subst}
-use Rattle.txn.specs.declared.steps.Action.{Action}
+use Rattle.txn.specs.declared.actions.Action.{Action}
 use Rattle.desks.specs.Seen.{Steps}
 use Rattle.clients.proofs.Visits.{own_held, steps_on}
 use Rattle.clients.proofs.client.Client.end_held.Goals as goal

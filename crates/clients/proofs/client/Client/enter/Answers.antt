@@ -1,6 +1,6 @@
 use Rattle.std.proofs.Common.{[], Ok, Err, refl, sym, ap, ◌∙◌, subst}
 use Rattle.std.proofs.lemmas.Result.{err_from_is_err_and}
-use Rattle.txn.specs.declared.steps.Action.{Action}
+use Rattle.txn.specs.declared.actions.Action.{Action}
 use Rattle.clients.specs.declared.phase.Phase.{Phase}
 use Rattle.desks.specs.Seen.{Steps}
 use Rattle.clients.specs.Known.{Known, known_of}

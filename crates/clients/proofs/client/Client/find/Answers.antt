@@ -1,7 +1,7 @@
 use Rattle.std.proofs.Common.{None, Err, refl}
 use Rattle.std.proofs.lemmas.Result.{IfErr-weaker}
-use Rattle.txn.specs.declared.steps.Action.{Action}
-use Rattle.txn.specs.declared.steps.Target.{Target}
+use Rattle.txn.specs.declared.actions.Action.{Action}
+use Rattle.txn.specs.declared.actions.Target.{Target}
 use Rattle.clients.proofs.Visits.{entered_own, found_client, took_on}
 use Rattle.clients.proofs.client.Client.find.Goals as goal
 

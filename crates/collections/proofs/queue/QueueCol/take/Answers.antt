@@ -10,8 +10,8 @@ pub remove_root-requires-clause-some : goal.remove_root-requires-clause-some
 remove_root-requires-clause-some c =
     not_empty c.self.inside.holders.items (λ e. c.requires (subst IsEmpty c.self.view_is e))
 
-pub settle-self-inside-requires-clause-marks : goal.settle-self-inside-requires-clause-marks
-settle-self-inside-requires-clause-marks c = c.self.invariant.marks ∙
+pub sift-self-inside-requires-clause-marks : goal.sift-self-inside-requires-clause-marks
+sift-self-inside-requires-clause-marks c = c.self.invariant.marks ∙
     (live_out c.self.inside.holders.items c.remove_root.new.holders.items (live 0 0)
     c.remove_root.ensures.others c.self.invariant.root).1
 
@@ -26,5 +26,5 @@ returns c p g least =
     (root_is_least hs root.priority root.tag c.self.invariant.heap
     (copy_at hs 0 (live 0 0) some c.self.invariant.root))
     (subst (λ b. IsLeast b p g) (sym c.self.view_is) least) in
-    c.settle-self-inside.ensures.bag ∙ add_take_out (bag_of ks) (pair_of root) ∙
+    c.sift-self-inside.ensures.bag ∙ add_take_out (bag_of ks) (pair_of root) ∙
     (λ i. take_out (sym out.0 i) (same i)) ∙ ap (λ b. take_out b (p, g)) c.self.view_is

@@ -1,8 +1,8 @@
 use Rattle.std.proofs.Common.{◌≡◌, Some, refl, sym, ap, ◌∙◌, subst}
 use Rattle.catalog.specs.Fours.{which_of, pick, put}
-use Rattle.shelf.specs.Looks.{IsLooked}
-use Rattle.txn.specs.declared.steps.Action.{Action}
-use Rattle.txn.specs.declared.steps.Target.{Target}
+use Rattle.steps.specs.Looks.{IsLooked}
+use Rattle.txn.specs.declared.actions.Action.{Action}
+use Rattle.txn.specs.declared.actions.Target.{Target}
 use Rattle.txn.proofs.BookParts.{of_book, book_told, book_kept}
 use Rattle.group_commit.specs.Twins.{EndState}
 use Rattle.desks.specs.Touches.{IsJournalDesk}

@@ -1,6 +1,6 @@
 use Rattle.std.proofs.Common.{Some}
-use Rattle.txn.specs.declared.steps.Action.{Action}
-use Rattle.txn.specs.declared.steps.Target.{Target}
+use Rattle.txn.specs.declared.actions.Action.{Action}
+use Rattle.txn.specs.declared.actions.Target.{Target}
 use Rattle.desks.specs.Seen.{step_of}
 use Rattle.desks.proofs.desk.Desk.ask.Given as goal
 

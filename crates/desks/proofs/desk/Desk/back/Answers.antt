@@ -1,6 +1,6 @@
 use Rattle.std.proofs.Common.{◌≡◌, Some, refl, sym, ap, ◌∙◌, subst}
 use Rattle.catalog.specs.Fours.{which_of, pick, put}
-use Rattle.txn.specs.declared.steps.Action.{Action}
+use Rattle.txn.specs.declared.actions.Action.{Action}
 use Rattle.txn.specs.Shelved.{HasNewestAt}
 use Rattle.txn.proofs.BookParts.{of_book, book_told, book_kept}
 use Rattle.group_commit.specs.Twins.{EndState}
@@ -40,7 +40,8 @@ back-undone-requires-clause-kept g c =
 
 pub back-undone-requires-clause-newest : goal.back-undone-requires-clause-newest
 back-undone-requires-clause-newest g c = subst
-    (HasNewestAt c.args.handle.number c.self.inside.journal.accounts.entries) c.if-newest-at.false
+    (HasNewestAt c.args.handle.number c.self.inside.journal.transactions.entries)
+    c.if-newest-at.false
     c.in_ok-newest.ensures.some
 
 keeps : (g : Over) (c : goal.After-wake g) → IsJournalDesk g.J.Naming g.B.Boosted.meaning

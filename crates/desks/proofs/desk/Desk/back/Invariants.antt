@@ -1,5 +1,5 @@
 use Rattle.std.proofs.Common.{Some}
-use Rattle.txn.specs.declared.steps.Action.{Action}
+use Rattle.txn.specs.declared.actions.Action.{Action}
 use Rattle.desks.specs.Seen.{step_of}
 use Rattle.desks.proofs.desk.Desk.back.Given as goal
 

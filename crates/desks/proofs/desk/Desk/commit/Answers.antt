@@ -1,6 +1,6 @@
 use Rattle.std.proofs.Common.{Some, refl}
 use Rattle.catalog.specs.Fours.{First, Second, Third, Fourth}
-use Rattle.txn.specs.declared.steps.Action.{Action}
+use Rattle.txn.specs.declared.actions.Action.{Action}
 use Rattle.desks.specs.Touches.{IsJournalDesk}
 use Rattle.desks.proofs.Owning.{kept_named}
 use Rattle.desks.proofs.ShelfSteps.{steps_over, steps_journal, owns_step}

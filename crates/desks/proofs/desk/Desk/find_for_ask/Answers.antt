@@ -1,9 +1,9 @@
 use Rattle.std.proofs.Common.{None, Some, Err, IfErr, refl, subst, sym}
 use Rattle.catalog.specs.Making.{FindRefused}
 use Rattle.catalog.specs.Woven.{names_in}
-use Rattle.machine.specs.Wholes.{contents}
-use Rattle.txn.specs.declared.steps.Action.{Action}
-use Rattle.txn.specs.declared.steps.Target.{Target}
+use Rattle.steps.specs.Wholes.{contents}
+use Rattle.txn.specs.declared.actions.Action.{Action}
+use Rattle.txn.specs.declared.actions.Target.{Target}
 use Rattle.desks.specs.Touches.{IsJournalDesk}
 use Rattle.desks.proofs.Owning.{kept_named}
 use Rattle.desks.proofs.ShelfSteps.{steps_beside, steps_journal, owns_step}

@@ -1,6 +1,6 @@
 use Rattle.std.proofs.Common.{IfNone, Some, subst, refl}
 use Rattle.undo_log.specs.Entries.{HasNoCall}
-use Rattle.txn.specs.declared.steps.Action.{Action}
+use Rattle.txn.specs.declared.actions.Action.{Action}
 use Rattle.desks.specs.Touches.{IsJournalDesk}
 use Rattle.desks.proofs.Owning.{kept_named}
 use Rattle.desks.proofs.ShelfSteps.{steps_beside, steps_journal, owns_step}
@@ -31,7 +31,7 @@ back_none-undone-requires-clause-kept g c =
 
 pub back_none-undone-requires-clause-none : goal.back_none-undone-requires-clause-none
 back_none-undone-requires-clause-none g c = subst
-    (λ r. IfNone r (HasNoCall c.args.handle.number c.self.inside.journal.accounts.entries))
+    (λ r. IfNone r (HasNoCall c.args.handle.number c.self.inside.journal.transactions.entries))
     c.in-None.is
     c.newest.ensures.none
 

@@ -1,4 +1,4 @@
-use Rattle.txn.specs.declared.steps.Action.{Action}
+use Rattle.txn.specs.declared.actions.Action.{Action}
 use Rattle.desks.specs.Notes.{alone, handed_count}
 use Rattle.desks.proofs.desk.Desk.hand_over.Given as goal
 

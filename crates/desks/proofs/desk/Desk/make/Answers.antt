@@ -1,5 +1,5 @@
 use Rattle.std.proofs.Common.{Some, refl}
-use Rattle.txn.specs.declared.steps.Action.{Action}
+use Rattle.txn.specs.declared.actions.Action.{Action}
 use Rattle.desks.specs.Touches.{IsJournalDesk}
 use Rattle.desks.specs.Seen.{step_of}
 use Rattle.desks.proofs.Owning.{nameless, kept_beside}

@@ -1,4 +1,4 @@
-use Rattle.txn.specs.declared.steps.Action.{Action}
+use Rattle.txn.specs.declared.actions.Action.{Action}
 use Rattle.desks.specs.Seen.{step_of}
 use Rattle.desks.proofs.desk.Desk.make.Given as goal
 

@@ -2,7 +2,7 @@ use Rattle.std.proofs.Common.{map, refl, sym, ap, ◌∙◌, subst, None, Some}
 use Rattle.calls.specs.Transactions as transactions
 use Rattle.calls.specs.Transactions.{laters_of}
 use Rattle.undo_log.specs.Entries.{stamped_entry}
-use Rattle.shelf.specs.Shelves.{CanRun, Does, on_quarter}
+use Rattle.steps.specs.Shelves.{CanRun, Does, on_quarter}
 use Rattle.catalog.specs.Fours.{rank}
 use Rattle.group_commit.specs.Twins.{EndState}
 use Rattle.desks.specs.Touches.{led}

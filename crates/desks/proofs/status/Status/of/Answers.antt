@@ -11,6 +11,7 @@ returns-clause-told g c f book same = record {
   waiting = c.waiting.ensures;
   next = c.next.ensures;
   wear = c.wear.ensures;
+  done = refl;
   collections = c.in_ok-measure.ensures.all f book same;
 }
 

@@ -18,9 +18,9 @@ returns-clause-kept g c = λ bodies body is ready.
     (c.write_block.ensures.kept bodies body is ready) in
     record {
       holds = kept.holds;
-      position = omega (
+      offset = omega (
         arith,
-        ready.position,
+        ready.offset,
         ap length is.is,
         length-row_push bodies body c.args.block.now is,
       );

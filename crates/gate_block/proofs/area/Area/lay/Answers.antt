@@ -19,7 +19,7 @@ returns-then-is_err-clause-any_moment_elsewhere g c =
 pub returns-then-is_err-clause-elsewhere : goal.returns-then-is_err-clause-elsewhere
 returns-then-is_err-clause-elsewhere g c =
     let a = c.args.self.now in
-    outside a.base a.size (a.base + a.position) a.position (length c.args.block.now) refl
+    outside a.base a.size (a.base + a.offset) a.offset (length c.args.block.now) refl
     (has_room _ _ c.in_ok-check_place.ensures.1) _ _ c.write_at.ensures.seen
 
 pub returns-clause-laid : goal.returns-clause-laid
@@ -29,14 +29,14 @@ returns-clause-laid g c = λ bodies body is laid.
     let fine : is_err c.write_at.result ≡ false = sym c.is_err.ensures.value ∙ c.if-is_err.false in
     let written = use_ok _ c.write_at.result fine c.write_at.ensures.written in
     record {
-      position = omega (
+      offset = omega (
         arith,
-        laid.position,
+        laid.offset,
         ap length is.is,
         length-row_push bodies body block is,
       );
-      holds = λ _. lays a.base a.size a.position bodies body block _ _ is
-          (has_room _ _ c.in_ok-check_place.ensures.1) c.requires.disk laid.position laid.holds
+      holds = λ _. lays a.base a.size a.offset bodies body block _ _ is
+          (has_room _ _ c.in_ok-check_place.ensures.1) c.requires.disk laid.offset laid.holds
           written c.write_at.ensures.seen;
     }
 
@@ -51,7 +51,7 @@ returns-clause-any_moment_elsewhere g c =
 pub returns-clause-elsewhere : goal.returns-clause-elsewhere
 returns-clause-elsewhere g c =
     let a = c.args.self.now in
-    outside a.base a.size (a.base + a.position) a.position (length c.args.block.now) refl
+    outside a.base a.size (a.base + a.offset) a.offset (length c.args.block.now) refl
     (has_room _ _ c.in_ok-check_place.ensures.1) _ _ c.write_at.ensures.seen
 
 pub returns-then-is_err-clause-answer : goal.returns-then-is_err-clause-answer

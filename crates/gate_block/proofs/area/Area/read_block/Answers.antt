@@ -14,11 +14,11 @@ returns-then-n-eq0-clause-error g c = record {
   broken = λ honest.
       let a = c.args.self.now in
       let s = g.D.Disk.seen c.args.disk.now in
-      let gate = a.base + a.position in
+      let gate = a.base + a.offset in
       let one_is = c.in_ok-read.ensures.bytes (c.read-2.ensures.honest honest) in
       let four_is = c.in_ok-read-2.ensures.bytes honest ∙
       ap (λ (l : List ℕ). take 4 (drop (gate + 1) l)) c.read.ensures.reads.same in
-      broken a.base a.size a.position s c.requires gate (gate + 1) c.read.new.out c.read-2.new.out
+      broken a.base a.size a.offset s c.requires gate (gate + 1) c.read.new.out c.read-2.new.out
       refl refl (omega arith) one_is four_is c.if-open.false
       (λ n is low high room.
       let n_is : n ≡ c.number-n.result = is ∙ sym c.number-n.ensures.is in
@@ -33,7 +33,7 @@ pub returns-clause-found : goal.returns-clause-found
 returns-clause-found g c = λ honest.
     let a = c.args.self.now in
     let s = g.D.Disk.seen c.args.disk.now in
-    let gate = a.base + a.position in
+    let gate = a.base + a.offset in
     let honest2 = c.read_bytes.ensures.honest honest in
     let one_is = c.in_ok-read.ensures.bytes (c.read-2.ensures.honest honest2) in
     let four_is = c.in_ok-read-2.ensures.bytes honest2 ∙
@@ -41,7 +41,7 @@ returns-clause-found g c = λ honest.
     let body_is = c.in_ok-read_bytes.ensures.bytes honest ∙
     ap (λ (l : List ℕ). take c.number-n.result (drop (gate + 5) l))
     (c.read-2.ensures.reads.same ∙ c.read.ensures.reads.same) in
-    stands a.base a.size a.position s c.requires gate (gate + 1) (gate + 5) c.number-n.result
+    stands a.base a.size a.offset s c.requires gate (gate + 1) (gate + 5) c.number-n.result
     c.read.new.out c.read-2.new.out c.in_ok-read_bytes.field-0.items refl refl refl one_is
     four_is body_is c.if-open.false c.number-n.ensures.spelled (omega arith) (omega arith)
     (omega arith)
@@ -110,8 +110,8 @@ returns-in_err-read_bytes-clause-error g c =
 pub returns-then-open-clause-found : goal.returns-then-open-clause-found
 returns-then-open-clause-found g c = λ honest opened.
     let a = c.args.self.now in
-    let gate = gate_is a.base a.size a.position (g.D.Disk.seen c.args.disk.now) c.requires
-    (a.base + a.position) c.read.new.out refl (omega arith) (c.in_ok-read.ensures.bytes honest) in
+    let gate = gate_is a.base a.size a.offset (g.D.Disk.seen c.args.disk.now) c.requires
+    (a.base + a.offset) c.read.new.out refl (omega arith) (c.in_ok-read.ensures.bytes honest) in
     c.if-open.true (sym gate.1 ∙ opened)
 
 pub returns-then-room-lt6-clause-error : goal.returns-then-room-lt6-clause-error
@@ -119,7 +119,7 @@ returns-then-room-lt6-clause-error g c = record {
   here = refl;
   broken = λ honest.
       let a = c.args.self.now in
-      cramped a.base a.size a.position (g.D.Disk.seen c.args.disk.now) c.requires
-      (a.base + a.position) c.read.new.out refl (omega arith) (omega arith)
+      cramped a.base a.size a.offset (g.D.Disk.seen c.args.disk.now) c.requires
+      (a.base + a.offset) c.read.new.out refl (omega arith) (omega arith)
       (c.in_ok-read.ensures.bytes honest) c.if-open.false;
 }

@@ -19,7 +19,7 @@ returns-in_err-write_and_sync-clause-elsewhere g c =
     let a = c.args.self.now in
     let block = c.args.block.now in
     let s = g.D.Disk.seen c.args.disk.now in
-    first_outside a.base a.size a.position [] c.requires.block.0 block (behind_gate block) s
+    first_outside a.base a.size a.offset [] c.requires.block.0 block (behind_gate block) s
     c.requires.block.1 (take_rest block 1) c.requires.room c.requires.disk s _
     c.write_and_sync.ensures.seen
 
@@ -33,13 +33,13 @@ returns-in_err-write_and_sync-clause-any_moment g c = λ bodies body is ready.
     weaker g.D.Disk.moment g.D.Disk.left_since disk c.write_and_sync.new.disk _
     (LeavesBlocks (g.D.Disk.may_leave disk) a bodies body) c.write_and_sync.ensures.any_moment
     (λ d torn. record {
-      blocks = inl (first_leaves a.base a.size a.position bodies body block (behind_gate block) s is
-          (take_rest block 1) c.requires.room c.requires.disk ready.holds ready.position torn.0 d
+      blocks = inl (first_leaves a.base a.size a.offset bodies body block (behind_gate block) s is
+          (take_rest block 1) c.requires.room c.requires.disk ready.holds ready.offset torn.0 d
           (ready.at_rest torn.0 torn.1) torn.2);
       elsewhere = (
         torn.0,
         torn.1,
-        first_outside a.base a.size a.position bodies body block
+        first_outside a.base a.size a.offset bodies body block
             (behind_gate block) s is (take_rest block 1) c.requires.room c.requires.disk torn.0 d
             torn.2,
       );
@@ -57,7 +57,7 @@ returns-in_err-write_and_sync-clause-any_moment_elsewhere g c =
     (λ d torn. (
       torn.0,
       torn.1,
-      first_outside a.base a.size a.position [] c.requires.block.0 block
+      first_outside a.base a.size a.offset [] c.requires.block.0 block
           (behind_gate block) s c.requires.block.1 (take_rest block 1) c.requires.room
           c.requires.disk
           torn.0 d torn.2,
@@ -78,22 +78,22 @@ returns-clause-any_moment_elsewhere g c =
     (λ d torn. (
       torn.0,
       torn.1,
-      first_outside a.base a.size a.position [] body block
+      first_outside a.base a.size a.offset [] body block
           (behind_gate block) s is (take_rest block 1) c.requires.room c.requires.disk torn.0 d
           torn.2,
     )) in
     and_then g.D.Disk.moment g.D.Disk.left_since disk mid c.write_and_sync-2.new.disk P _ first
     c.write_and_sync-2.ensures.any_moment
     (λ d torn.
-    let from_mid : Torn (a.base + a.position) 1 (g.D.Disk.seen mid) d =
-    subst (λ (l : List ℕ). Torn (a.base + a.position) 1 l d)
+    let from_mid : Torn (a.base + a.offset) 1 (g.D.Disk.seen mid) d =
+    subst (λ (l : List ℕ). Torn (a.base + a.offset) 1 l d)
     (c.in_ok-write_and_sync.ensures.durable torn.0 torn.1) torn.2 in (
       s,
       g.met.D.Disk.seen_may_stay disk,
       outside_twice a.base a.size s (g.D.Disk.seen mid) d
-          (first_outside a.base a.size a.position [] body block (behind_gate block) s is
+          (first_outside a.base a.size a.offset [] body block (behind_gate block) s is
           (take_rest block 1) c.requires.room c.requires.disk s _ c.write_and_sync.ensures.seen)
-          (second_outside a.base a.size a.position [] body block (behind_gate block) s is
+          (second_outside a.base a.size a.offset [] body block (behind_gate block) s is
           (take_rest block 1) c.requires.room c.requires.disk (g.D.Disk.seen mid) d from_mid),
     ))
 
@@ -105,10 +105,10 @@ returns-clause-elsewhere g c =
     let mid = g.D.Disk.seen c.write_and_sync.new.disk in
     let body = c.requires.block.0 in
     outside_twice a.base a.size s mid _
-    (first_outside a.base a.size a.position [] body block (behind_gate block) s
+    (first_outside a.base a.size a.offset [] body block (behind_gate block) s
     c.requires.block.1 (take_rest block 1) c.requires.room c.requires.disk s _
     c.write_and_sync.ensures.seen)
-    (second_outside a.base a.size a.position [] body block (behind_gate block) s c.requires.block.1
+    (second_outside a.base a.size a.offset [] body block (behind_gate block) s c.requires.block.1
     (take_rest block 1) c.requires.room c.requires.disk mid _ c.write_and_sync-2.ensures.seen)
 
 pub returns-clause-any_moment : goal.returns-clause-any_moment
@@ -122,13 +122,13 @@ returns-clause-any_moment g c = λ bodies body is ready.
     let first = weaker g.D.Disk.moment g.D.Disk.left_since disk mid _ P
     c.write_and_sync.ensures.any_moment
     (λ d torn. record {
-      blocks = inl (first_leaves a.base a.size a.position bodies body block (behind_gate block) s is
-          (take_rest block 1) c.requires.room c.requires.disk ready.holds ready.position torn.0 d
+      blocks = inl (first_leaves a.base a.size a.offset bodies body block (behind_gate block) s is
+          (take_rest block 1) c.requires.room c.requires.disk ready.holds ready.offset torn.0 d
           (ready.at_rest torn.0 torn.1) torn.2);
       elsewhere = (
         torn.0,
         torn.1,
-        first_outside a.base a.size a.position bodies body block
+        first_outside a.base a.size a.offset bodies body block
             (behind_gate block) s is (take_rest block 1) c.requires.room c.requires.disk torn.0 d
             torn.2,
       );
@@ -136,22 +136,22 @@ returns-clause-any_moment g c = λ bodies body is ready.
     and_then g.D.Disk.moment g.D.Disk.left_since disk mid c.write_and_sync-2.new.disk P _ first
     c.write_and_sync-2.ensures.any_moment
     (λ d torn.
-    let from_mid : Torn (a.base + a.position) 1 (g.D.Disk.seen mid) d =
-    subst (λ (l : List ℕ). Torn (a.base + a.position) 1 l d)
+    let from_mid : Torn (a.base + a.offset) 1 (g.D.Disk.seen mid) d =
+    subst (λ (l : List ℕ). Torn (a.base + a.offset) 1 l d)
     (c.in_ok-write_and_sync.ensures.durable torn.0 torn.1) torn.2 in
     record {
-      blocks = second_leaves a.base a.size a.position bodies body block (behind_gate block) s is
-          (take_rest block 1) c.requires.room c.requires.disk ready.holds ready.position
+      blocks = second_leaves a.base a.size a.offset bodies body block (behind_gate block) s is
+          (take_rest block 1) c.requires.room c.requires.disk ready.holds ready.offset
           (g.D.Disk.seen mid) c.in_ok-write_and_sync.ensures.written c.write_and_sync.ensures.seen d
           from_mid;
       elsewhere = (
         s,
         g.met.D.Disk.seen_may_stay disk,
         outside_twice a.base a.size s (g.D.Disk.seen mid) d
-            (first_outside a.base a.size a.position bodies body block (behind_gate block) s is
+            (first_outside a.base a.size a.offset bodies body block (behind_gate block) s is
             (take_rest block 1) c.requires.room c.requires.disk s _
             c.write_and_sync.ensures.seen)
-            (second_outside a.base a.size a.position bodies body block (behind_gate block) s is
+            (second_outside a.base a.size a.offset bodies body block (behind_gate block) s is
             (take_rest block 1) c.requires.room c.requires.disk (g.D.Disk.seen mid) d from_mid),
       );
     })
@@ -168,8 +168,8 @@ returns-clause-kept g c = λ bodies body is ready.
     let mid = g.D.Disk.seen c.write_and_sync.new.disk in
     on_ok_weaker c.write_and_sync-2.result
     (λ done. record {
-      holds = second_holds a.base a.size a.position bodies body block (behind_gate block) s is
-          (take_rest block 1) c.requires.room c.requires.disk ready.holds ready.position mid
+      holds = second_holds a.base a.size a.offset bodies body block (behind_gate block) s is
+          (take_rest block 1) c.requires.room c.requires.disk ready.holds ready.offset mid
           c.in_ok-write_and_sync.ensures.written c.write_and_sync.ensures.seen _
           c.write_and_sync-2.ensures.seen done.0;
       at_rest = done.1;
@@ -184,7 +184,7 @@ returns-clause-counts g c = λ bodies body is holds here.
     let s = g.D.Disk.seen c.args.disk.now in
     let mid = g.D.Disk.seen c.write_and_sync.new.disk in
     on_ok_weaker c.write_and_sync-2.result
-    (second_holds a.base a.size a.position bodies body block (behind_gate block) s is
+    (second_holds a.base a.size a.offset bodies body block (behind_gate block) s is
     (take_rest block 1) c.requires.room c.requires.disk holds here mid
     c.in_ok-write_and_sync.ensures.written c.write_and_sync.ensures.seen _
     c.write_and_sync-2.ensures.seen)

@@ -2,7 +2,7 @@ use Rattle.calls.specs.Formats.{widest}
 use Rattle.std.proofs.Common.{◌≤◌, ◌++◌, ◌∷◌, [], IfSome, subst, sym}
 use Rattle.std.specs.List.{AllByRecursion}
 use Rattle.std.proofs.lemmas.List.{map-append}
-use Rattle.record_format.specs.Short.{HoldsShort}
+use Rattle.records.specs.Short.{HoldsShort}
 use Rattle.images.specs.declared.stamped.Stamped.{Stamped}
 use Rattle.images.specs.Gathers.{GatherState, CanCatchUp}
 use Rattle.images.specs.Views.{copy_of, gather_of}
@@ -19,7 +19,7 @@ invariant_of-self-2 g c =
     let old = gather_of g.P.Part.collection i.mark i.copies.items i.effects.items i.frozen in
     let can = subst (λ (v : GatherState). CanCatchUp v.parts (v.effects ++ more))
     (sym c.self.view_is) c.requires.can in
-    let low = subst (λ (v : GatherState). AllByRecursion (λ e. e.position ≤ c.args.stamp)
+    let low = subst (λ (v : GatherState). AllByRecursion (λ e. e.lsn ≤ c.args.stamp)
     (v.effects ++ more)) (sym c.self.view_is) c.requires.behind in
     elim c.match-part-3.branch [
       | in-Some w ↦

@@ -1,6 +1,6 @@
 use Rattle.std.proofs.Common.{refl, subst, sym, ◌∙◌, ap, [], ◌≡◌}
 use Rattle.std.specs.Option.{option_map}
-use Rattle.blocks.proofs.Packed.{all_whole}
+use Rattle.records.proofs.Packed.{all_whole}
 use Rattle.images.specs.Images.{TellsGathered, IsPacked}
 use Rattle.images.specs.Gathers.{gathered, caught_up}
 use Rattle.images.specs.Views.{copies_of, frozen_of}
@@ -22,7 +22,8 @@ returns-clause-ok g c =
     record {
       frozen = frozen_of f;
       is_frozen = ap (option_map frozen_of) c.in-Some.is;
-      packed = subst (λ ps. IsPacked (TellsGathered f.marks.format f.marks.next f.marks.wear
+      packed = subst (λ ps. IsPacked (TellsGathered f.image_head.format f.image_head.next
+          f.image_head.wear
           (gathered ps)
           f.live.items) c.in_ok-pack-in-Some.field-0.items) same
           c.in_ok-pack-in-Some.ensures.image;

@@ -9,7 +9,7 @@ use Rattle.images.proofs.gathering.Gathering.effect_of_undoing.Goals as goal
 pub returns-then-not-self-clause-ok : goal.returns-then-not-self-clause-ok
 returns-then-not-self-clause-ok g c =
     let x = event_of c.args.newest.now in
-    let there = can_take_back g.C.Boosted.meaning c.args.position x c.args.collections.now
+    let there = can_take_back g.C.Boosted.meaning c.args.lsn x c.args.collections.now
     c.requires.told c.requires.undoes in (
       there.0,
       there.1,

@@ -8,7 +8,7 @@ pub returns-clause-along : goal.returns-clause-along
 returns-clause-along g c now next =
     let i = c.self.inside in
     let xs = g.B.Parts.collections in
-    let p = c.args.position in
+    let p = c.args.lsn in
     let n = gathering_of i.begun i.going i.effects.items in
     let under = c.in_ok-check_going.ensures.ok in
     let before = subst (λ (v : GatheringState). GoesAlong xs v now p c.args.gather.now)

@@ -1,5 +1,5 @@
 use Rattle.std.proofs.Common.{◌^◌, ◌-◌, min, refl, ap, ◌∙◌, arith, rules}
-use Rattle.undoing.specs.Undoing.{blocks_len}
+use Rattle.replay.specs.Undoing.{blocks_len}
 use Rattle.recovery.proofs.finding.Found.survey.Goals as goal
 
 pub returns-clause-survey : goal.returns-clause-survey

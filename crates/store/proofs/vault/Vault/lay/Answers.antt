@@ -2,7 +2,7 @@ use Rattle.std.proofs.Common.{◌∙◌, arith, subst, sym}
 use Rattle.std.specs.Prelude.{◌≤◌}
 use Rattle.disk_model.specs.Disk.{Rises}
 use Rattle.group_commit.specs.Marks.{KeeperMark}
-use Rattle.world.proofs.KeeperSteps.{piece_mark, flip_mark_is, flip_mark_rises}
+use Rattle.engine.proofs.KeeperLemmas.{piece_mark, flip_mark_is, flip_mark_rises}
 use Rattle.store.specs.Turns.{stops_behind}
 use Rattle.store.specs.Vaults.{IsVault}
 use Rattle.store.proofs.Causes.{piece_caused, flip_caused}

@@ -3,8 +3,8 @@ use Rattle.std.proofs.lemmas.Result.{err_from_is_err_and}
 use Rattle.calls.specs.Names.{IsName}
 use Rattle.catalog.specs.Making.{names_of, IsPlaceOf, FindRefused}
 use Rattle.talks.specs.Clients.{AskedFor, kind_at}
-use Rattle.world.specs.declared.steps.Step.{Step}
-use Rattle.world.specs.declared.steps.Answer.{Answer}
+use Rattle.world.specs.declared.step.Step.{Step}
+use Rattle.world.specs.declared.step.Answer.{Answer}
 use Rattle.talks.proofs.Stepping.{asked}
 use Rattle.talks.proofs.ClientLemmas.{not_entered, not_found, asked_at}
 use Rattle.talks.proofs.client.Client.ask.Goals as goal
@@ -36,7 +36,8 @@ returns g c =
     let is_asked : AskedFor c.enter.new.world.book.state.now c.in_ok-collection.collection
     c.args.operation c.call_of-call.result =
     c.call_of-call.ensures c.enter.new.world.book.state.now c.in_ok-collection.collection
-    (c.kind.ensures ∙ ap (λ b. kind_at b.state.now c.in_ok-collection.collection) c.book-2.ensures) in
+    (c.kind.ensures ∙ ap (λ b. kind_at b.state.now c.in_ok-collection.collection)
+    c.book-2.ensures) in
     let ran = asked g.D.Disk c.enter.new.world c.ask.new.self
     (Step.Ask c.in_ok-number.number c.in_ok-collection.collection c.call_of-call.result c.args.when)
     Answer.Replied c.ask.result c.ask.ensures in

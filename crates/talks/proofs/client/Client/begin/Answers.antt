@@ -1,8 +1,8 @@
 use Rattle.std.proofs.lemmas.Result.{err_from_is_err_and}
 use Rattle.std.proofs.Common.{[], Err, Ok, refl, sym, ◌∙◌, ap, inl, inr, true≢false}
 use Rattle.std.specs.Option.{is_some}
-use Rattle.world.specs.declared.steps.Step.{Step}
-use Rattle.world.specs.declared.steps.Answer.{Answer}
+use Rattle.world.specs.declared.step.Step.{Step}
+use Rattle.world.specs.declared.step.Answer.{Answer}
 use Rattle.talks.proofs.Stepping.{asked}
 use Rattle.talks.proofs.ClientLemmas.{none_is}
 use Rattle.talks.proofs.client.Client.begin.Goals as goal

@@ -2,8 +2,8 @@ use Rattle.std.proofs.lemmas.Result.{err_from_is_err_and}
 use Rattle.std.proofs.Common.{[], sym, subst, true, false, Ok, Err, refl}
 use Rattle.calls.specs.declared.refusal.Refusal.{Refusal}
 use Rattle.talks.specs.Clients.{opening, EntersOpen}
-use Rattle.world.specs.declared.steps.Step.{Step}
-use Rattle.world.specs.declared.steps.Answer.{Answer}
+use Rattle.world.specs.declared.step.Step.{Step}
+use Rattle.world.specs.declared.step.Answer.{Answer}
 use Rattle.world.specs.Pasts.{alone}
 use Rattle.talks.proofs.Stepping.{asked}
 use Rattle.talks.proofs.ClientLemmas.{entered_as}

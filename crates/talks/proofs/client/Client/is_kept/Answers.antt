@@ -1,7 +1,7 @@
 use Rattle.std.proofs.Common.{[], ◌∷◌, Some, leb, refl, sym, subst, rules, tests}
 use Rattle.talks.specs.Clients.{Looks}
-use Rattle.world.specs.declared.steps.Step.{Step}
-use Rattle.world.specs.declared.steps.Answer.{Answer}
+use Rattle.world.specs.declared.step.Step.{Step}
+use Rattle.world.specs.declared.step.Answer.{Answer}
 use Rattle.world.specs.Pasts.{Past}
 use Rattle.talks.proofs.client.Client.is_kept.Goals as goal
 

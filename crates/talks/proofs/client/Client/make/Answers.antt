@@ -1,7 +1,7 @@
 use Rattle.std.proofs.lemmas.Result.{err_from_is_err_and}
 use Rattle.std.proofs.Common.{refl, Ok, Err}
-use Rattle.world.specs.declared.steps.Step.{Step}
-use Rattle.world.specs.declared.steps.Answer.{Answer}
+use Rattle.world.specs.declared.step.Step.{Step}
+use Rattle.world.specs.declared.step.Answer.{Answer}
 use Rattle.talks.proofs.Stepping.{asked}
 use Rattle.talks.proofs.client.Client.make.Goals as goal
 

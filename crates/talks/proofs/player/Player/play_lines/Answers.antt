@@ -13,7 +13,7 @@ loop-number-init g c = (([], refl), refl, (refl, refl))
 pub loop-number-preserved : goal.loop-number-preserved
 loop-number-preserved g c =
     let now = c.loop-number.self in
-    let next = c.answer-said.new.self in
+    let next = c.answer-response.new.self in
     let so_far = c.loop-number.invariant in
     let turn = YieldsList-turn (YieldsList-from_vec {s = c.into_iter-number-iterator.result}
     c.args.lines.items (search rules) (search rules)) c.loop-number.yielded
@@ -21,26 +21,27 @@ loop-number-preserved g c =
     c.in-Some.field-0 c.in-Some.is c.next.ensures.steps in (
       played_on g.D.Disk c.args.self.now.world now.world next.world so_far.0
           (answers_plays g.D.Disk now.clients next.clients now.world next.world
-          c.in-Some.field-0.what c.answer-said.result c.answer-said.ensures),
+          c.in-Some.field-0.what c.answer-response.result c.answer-response.ensures),
       lines_more c.args.lines.items c.loop-number.yielded c.in-Some.field-0 so_far.1 turn.0 turn.1,
       one_line_more g.D.Disk c.args.self.now.clients now.clients next.clients c.args.self.now.world
-          now.world next.world c.loop-number.yielded c.in-Some.field-0 c.answer-said.result so_far.2
-          c.answer-said.ensures,
+          now.world next.world c.loop-number.yielded c.in-Some.field-0 c.answer-response.result
+          so_far.2
+          c.answer-response.ensures,
     )
 
 pub returns-in_err-write_line-clause-plays : goal.returns-in_err-write_line-clause-plays
 returns-in_err-write_line-clause-plays g c =
     let now = c.loop-number.self in
-    let next = c.answer-said.new.self in
+    let next = c.answer-response.new.self in
     played_on g.D.Disk c.args.self.now.world now.world next.world c.loop-number.invariant.0
     (answers_plays g.D.Disk now.clients next.clients now.world next.world c.in-Some.field-0.what
-    c.answer-said.result c.answer-said.ensures)
+    c.answer-response.result c.answer-response.ensures)
 
 pub returns-in_err-write_line-clause-lines : goal.returns-in_err-write_line-clause-lines
 returns-in_err-write_line-clause-lines g c =
     let p = err_from_is_err_and c.from_residual.result c.from_residual.ensures.1 in
     let now = c.loop-number.self in
-    let next = c.answer-said.new.self in
+    let next = c.answer-response.new.self in
     let so_far = c.loop-number.invariant in
     let turn = YieldsList-turn (YieldsList-from_vec {s = c.into_iter-number-iterator.result}
     c.args.lines.items (search rules) (search rules)) c.loop-number.yielded
@@ -50,7 +51,7 @@ returns-in_err-write_line-clause-lines g c =
     turn.0 turn.1 in
     let done = one_line_more g.D.Disk c.args.self.now.clients now.clients next.clients
     c.args.self.now.world now.world next.world c.loop-number.yielded c.in-Some.field-0
-    c.answer-said.result so_far.2 c.answer-said.ensures in
+    c.answer-response.result so_far.2 c.answer-response.ensures in
     rw p.1 (
       length (c.loop-number.yielded ++ c.in-Some.field-0 ∷ []),
       subst (λ l. CarriesOut g.D.Disk c.args.self.now.clients c.args.self.now.world l next.clients

@@ -1,7 +1,7 @@
 use Rattle.std.proofs.Common.{OnOk, subst}
 use Rattle.catalog.specs.Fours.{which_of, put}
-use Rattle.txn.specs.declared.steps.Action.{Action}
-use Rattle.txn.specs.declared.steps.Target.{Target}
+use Rattle.txn.specs.declared.actions.Action.{Action}
+use Rattle.txn.specs.declared.actions.Target.{Target}
 use Rattle.txn.specs.Books.{Notes}
 use Rattle.txn.specs.Shelved.{book_state}
 use Rattle.txn.proofs.BookParts.{of_book, book_told, book_kept}
@@ -36,7 +36,9 @@ returns-clause-goes g c = rw (← c.self.view_is)
 
 pub returns-clause-notes : goal.returns-clause-notes
 returns-clause-notes g c = subst
-    (λ b. OnOk c.ask.result (Notes g.B.Boosted.meaning b (Action.Ask c.args.number (Target.Number c.args.at) c.args.call.now c.args.when c.ask.result)
+    (λ b. OnOk c.ask.result (Notes g.B.Boosted.meaning b
+    (Action.Ask c.args.number (Target.Number c.args.at) c.args.call.now c.args.when
+    c.ask.result)
     (book_state g.B.Parts.whole c.ask.new.self
     (put c.self.inside.shelves (which_of c.args.at) c.ask.new.shelf))))
     c.self.view_is (book_told (which_of c.args.at) c.self.inside.journal

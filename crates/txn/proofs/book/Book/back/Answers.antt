@@ -1,6 +1,6 @@
 use Rattle.std.proofs.Common.{OnOk, subst}
 use Rattle.catalog.specs.Fours.{which_of, put}
-use Rattle.txn.specs.declared.steps.Action.{Action}
+use Rattle.txn.specs.declared.actions.Action.{Action}
 use Rattle.txn.specs.Books.{Notes, Takes}
 use Rattle.txn.specs.Shelved.{book_state}
 use Rattle.txn.proofs.BookParts.{of_book, book_told, book_kept}
@@ -25,12 +25,14 @@ returns-clause-answer g c = subst
     c.back.new.self c.back.new.shelf c.back.ensures).answer
 
 pub returns-clause-settled : goal.returns-clause-settled
-returns-clause-settled g c = rw (← c.self.view_is) (book_told (which_of c.in-Some.at) c.self.inside.journal
+returns-clause-settled g c = rw (← c.self.view_is)
+    (book_told (which_of c.in-Some.at) c.self.inside.journal
     c.self.inside.shelves c.self.invariant c.of_mut.result.now c.of_mut.ensures.value
     c.back.new.self c.back.new.shelf c.back.ensures).settles
 
 pub returns-clause-goes : goal.returns-clause-goes
-returns-clause-goes g c = rw (← c.self.view_is) (book_told (which_of c.in-Some.at) c.self.inside.journal
+returns-clause-goes g c = rw (← c.self.view_is)
+    (book_told (which_of c.in-Some.at) c.self.inside.journal
     c.self.inside.shelves c.self.invariant c.of_mut.result.now c.of_mut.ensures.value
     c.back.new.self c.back.new.shelf c.back.ensures).goes
 

@@ -1,13 +1,13 @@
 use Rattle.std.proofs.Common.{◌∙◌, length, sym, ap, subst, arith, Ok}
 use Rattle.calls.specs.Transactions.{own, laters_of}
 use Rattle.catalog.specs.Fours.{rank, pick}
-use Rattle.shelf.specs.Shelves.{CanRun, on_quarter, Settles}
-use Rattle.record_format.specs.Short.{AreShort}
-use Rattle.machine.specs.Wholes.{AccountsState, whole_state}
-use Rattle.machine.proofs.BookLaws.{BookLaws, book_laws}
-use Rattle.machine.proofs.InvariantRows.{commit_fits}
-use Rattle.machine.proofs.Joining.{ready_join}
-use Rattle.txn.specs.declared.steps.Action.{Action}
+use Rattle.steps.specs.Shelves.{CanRun, on_quarter, Settles}
+use Rattle.records.specs.Short.{AreShort}
+use Rattle.steps.specs.Wholes.{TransactionsState, whole_state}
+use Rattle.steps.proofs.BookLaws.{BookLaws, book_laws}
+use Rattle.steps.proofs.InvariantRows.{commit_fits}
+use Rattle.steps.proofs.Joining.{ready_join}
+use Rattle.txn.specs.declared.actions.Action.{Action}
 use Rattle.txn.specs.Shelved.{IsBook, IsServed, SettlesWhole, book_state}
 use Rattle.txn.proofs.JournalEnds.{commit_book}
 use Rattle.txn.proofs.book.Book.commit.Given.{Over}
@@ -24,11 +24,12 @@ settle_all-ran-requires g c =
     let n = c.args.number in
     let running = c.in_ok-place.ensures.running in
     let noted = c.entries_of.ensures ∙
-    ap (λ (a : AccountsState). own n a.entries) c.in_ok-place.ensures.accounts in
+    ap (λ (a : TransactionsState). own n a.entries) c.in_ok-place.ensures.transactions in
     record {
       can = λ w. subst (λ es. CanRun g.B.Shelf.Boosted.meaning (on_quarter (rank w) (laters_of es))
           (pick i.shelves w).now) (sym noted)
-          (ready_join g.met.B.Parts.shelf_laws (laws g) i.journal.names i.journal.accounts i.shelves
+          (ready_join g.met.B.Parts.shelf_laws (laws g) i.journal.names i.journal.transactions
+          i.shelves
           i.shelves n c.self.invariant.joined running.live running.standing w);
     }
 
@@ -37,12 +38,12 @@ finish-requires g c =
     let i = c.self.inside in
     let n = c.args.number in
     let noted = c.entries_of.ensures ∙
-    ap (λ (a : AccountsState). own n a.entries) c.in_ok-place.ensures.accounts in
+    ap (λ (a : TransactionsState). own n a.entries) c.in_ok-place.ensures.transactions in
     let ran = c.settle_all-ran.ensures.count ∙ ap (λ es. length (laters_of es)) noted in
-    let same = ap (λ (a : AccountsState). a.wear) c.in_ok-place.ensures.accounts in
+    let same = ap (λ (a : TransactionsState). a.wear) c.in_ok-place.ensures.transactions in
     let fits = commit_fits g.B.Boosted.meaning g.B.Parts.making
     (λ f s. AreShort f (g.B.Parts.collections s)) (laws g)
-    (whole_state g.B.Parts.whole i.journal.names i.journal.accounts i.shelves)
+    (whole_state g.B.Parts.whole i.journal.names i.journal.transactions i.shelves)
     c.self.invariant.kept.upheld n in
     omega arith
 
@@ -61,11 +62,12 @@ done g c =
     let i = c.self.inside in
     let n = c.args.number in
     let told = c.in_ok-place.ensures in
-    let noted = c.entries_of.ensures ∙ ap (λ (a : AccountsState). own n a.entries) told.accounts in
+    let noted = c.entries_of.ensures ∙
+    ap (λ (a : TransactionsState). own n a.entries) told.transactions in
     commit_book g.met.B.Boosted.laws g.met.B.Parts.laws g.met.B.Coded.told
     g.met.B.Parts.shelf_laws i.journal
     c.prepare_commit.new.self c.finish.new.self n c.settle_all-ran.result i.shelves
-    c.settle_all-ran.new.shelves c.self.invariant told.accounts told.names c.finish.ensures
+    c.settle_all-ran.new.shelves c.self.invariant told.transactions told.names c.finish.ensures
     c.in_ok-place.place told.running told.written told.place told.noted
     (c.settle_all-ran.ensures.count ∙ ap (λ es. length (laters_of es)) noted)
     (λ w. subst (λ es. Settles g.B.Shelf.Boosted.meaning (pick i.shelves w) n

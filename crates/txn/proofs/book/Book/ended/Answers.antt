@@ -1,5 +1,5 @@
 use Rattle.std.proofs.Common.{Ok, refl}
-use Rattle.txn.specs.declared.steps.Action.{Action}
+use Rattle.txn.specs.declared.actions.Action.{Action}
 use Rattle.txn.specs.Shelved.{IsBook, Serves, book_state}
 use Rattle.txn.proofs.JournalEnds.{ended_book}
 use Rattle.txn.proofs.book.Book.ended.Given.{Over}
@@ -20,7 +20,8 @@ done g c =
     ended_book g.met.B.Boosted.laws g.met.B.Parts.laws g.met.B.Coded.told
     g.met.B.Parts.shelf_laws i.journal
     c.prepare_end.new.self c.finish.new.self c.args.number 0 i.shelves c.give_up_all.new.shelves
-    c.self.invariant told.accounts told.names c.finish.ensures told.live told.undone told.written
+    c.self.invariant told.transactions told.names c.finish.ensures told.live told.undone
+    told.written
     told.noted refl c.give_up_all.ensures
 
 pub invariant_of-self-2 : goal.invariant_of-self-2

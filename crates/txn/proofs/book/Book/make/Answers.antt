@@ -1,7 +1,7 @@
 use Rattle.std.proofs.Common.{◌≡◌, ◌%◌, length, OnOk, refl, sym, ◌∙◌, ap, subst}
 use Rattle.catalog.specs.Fours.{Which, which_of, pick, put}
 use Rattle.catalog.specs.Laws.Numbers.{which_is}
-use Rattle.txn.specs.declared.steps.Action.{Action}
+use Rattle.txn.specs.declared.actions.Action.{Action}
 use Rattle.txn.specs.Books.{Notes, Takes}
 use Rattle.txn.specs.Shelved.{IsBook, book_state, IsServed, SettlesMade}
 use Rattle.txn.proofs.BookParts.{of_book, book_told, book_kept}
@@ -19,7 +19,8 @@ pub make-requires : goal.make-requires
 make-requires g c =
     let i = c.self.inside in
     let w = which_of (length (g.B.Names.Named.labels i.journal.names)) in
-    let turn = sym (which_is c.count.result (c.count.result % 4) refl) ∙ ap which_of c.count.ensures in
+    let turn = sym (which_is c.count.result (c.count.result % 4) refl) ∙
+    ap which_of c.count.ensures in
     record {
       kept = of_book w i.journal i.shelves c.self.invariant c.of_mut-shelf.result.now
           (c.of_mut-shelf.ensures.value ∙ ap (pick i.shelves) turn);

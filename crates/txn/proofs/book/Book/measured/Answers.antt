@@ -1,5 +1,5 @@
 use Rattle.std.proofs.Common.{◌<◌, length, sym, subst}
-use Rattle.machine.specs.Wholes.{contents}
+use Rattle.steps.specs.Wholes.{contents}
 use Rattle.txn.proofs.Copying.{as_many}
 use Rattle.txn.proofs.book.Book.measured.Goals as goal
 

@@ -1,6 +1,6 @@
 use Rattle.std.proofs.Common.{sym, subst, ap, ◌∙◌, ◌≤◌, length}
 use Rattle.calls.specs.Limits.{max_collections}
-use Rattle.record_format.specs.Short.{AreShort}
+use Rattle.records.specs.Short.{AreShort}
 use Rattle.txn.specs.Books.{opened}
 use Rattle.txn.specs.Shelved.{book_state, opened_journal}
 use Rattle.txn.proofs.Opened.{opened_book}

@@ -1,7 +1,7 @@
 use Rattle.std.proofs.Common.{subst}
-use Rattle.record_format.specs.Short.{AreShort}
+use Rattle.records.specs.Short.{AreShort}
 use Rattle.txn.specs.Books.{IsKept}
-use Rattle.machine.specs.Sound.{IsSound}
+use Rattle.steps.specs.Sound.{IsSound}
 use Rattle.txn.proofs.book.Book.upheld.Goals as goal
 
 pub returns : goal.returns

@@ -1,13 +1,13 @@
 use Rattle.std.proofs.Common.{length, refl, sym, subst, ◌<◌}
 use Rattle.catalog.specs.Fours.{which_of}
-use Rattle.machine.specs.Machine.{HasNewestRead}
+use Rattle.steps.specs.Machine.{HasNewestRead}
 use Rattle.txn.specs.Shelved.{JournalState}
 use Rattle.txn.proofs.JournalEnds.{unread_on}
 use Rattle.txn.proofs.journal.Journal.back.Goals as goal
 
 pub unread-requires-clause-newest : goal.unread-requires-clause-newest
 unread-requires-clause-newest g c =
-    subst (λ (j : JournalState _). HasNewestRead c.args.handle.number j.accounts.entries)
+    subst (λ (j : JournalState _). HasNewestRead c.args.handle.number j.transactions.entries)
     (sym c.self.view_is) (c.newest_reads.ensures.0 c.if-newest_reads.true)
 
 pub returns-then-newest_reads : goal.returns-then-newest_reads

@@ -8,5 +8,6 @@ returns g c =
     let i = c.self.inside in
     rw (← c.self.view_is) (cut_beside g.met.B.Boosted.laws g.met.B.Parts.laws g.met.B.Coded.told
     g.met.B.Parts.shelf_laws (λ bs. g.O.Outbox.sends c.args.out.now bs c.cut.new.out) _ _
-    (journal_of i.names i.accounts i.pending i.places i.next i.gathering)
-    (journal_of i.names i.accounts c.cut.new.self i.places i.next i.gathering) c.cut.ensures refl)
+    (journal_of i.names i.transactions i.pending i.places i.next i.gathering)
+    (journal_of i.names i.transactions c.cut.new.self i.places i.next i.gathering) c.cut.ensures
+    refl)

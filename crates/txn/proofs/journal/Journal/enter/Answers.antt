@@ -1,9 +1,9 @@
 use Rattle.std.proofs.Common.{refl, sym, subst, arith}
-use Rattle.record_format.specs.Short.{AreShort}
-use Rattle.blocks.specs.Waits.{HasRoomFor}
-use Rattle.machine.proofs.BookLaws.{book_laws}
-use Rattle.machine.proofs.InvariantRows.{enter_room}
-use Rattle.machine.specs.Wholes.{whole_state}
+use Rattle.records.specs.Short.{AreShort}
+use Rattle.records.specs.Waits.{HasRoomFor}
+use Rattle.steps.proofs.BookLaws.{book_laws}
+use Rattle.steps.proofs.InvariantRows.{enter_room}
+use Rattle.steps.specs.Wholes.{whole_state}
 use Rattle.txn.specs.Rows.{CanEnter}
 use Rattle.txn.specs.Shelved.{standing_of, IsJournal}
 use Rattle.txn.proofs.BookLemmas.{mark_length}
@@ -25,7 +25,7 @@ begin-requires-clause-room g c =
     let room = enter_room g.B.Boosted.meaning g.B.Parts.making
     (λ f s. AreShort f (g.B.Parts.collections s))
     (book_laws g.met.B.Boosted.laws g.met.B.Parts.laws g.met.B.Coded.told)
-    (whole_state g.B.Parts.whole i.names i.accounts book.0) book.1.kept.upheld can.unworn in
+    (whole_state g.B.Parts.whole i.names i.transactions book.0) book.1.kept.upheld can.unworn in
     omega arith
 
 pub returns : goal.returns

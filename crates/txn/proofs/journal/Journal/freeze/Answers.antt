@@ -4,15 +4,15 @@ use Rattle.calls.specs.Formats.{widest}
 use Rattle.calls.specs.Transactions.{Entry}
 use Rattle.undo_log.specs.Logs.{Lives}
 use Rattle.boosted.proofs.Each.{each_both}
-use Rattle.record_format.specs.Records.{IsNumber}
-use Rattle.record_format.specs.Short.{AreShort}
-use Rattle.blocks.specs.declared.draft.Handed.{Handed}
-use Rattle.blocks.specs.Waits.{waiting}
-use Rattle.machine.specs.Machines.{IsAskedEntry}
-use Rattle.machine.specs.Wholes.{contents, whole_state}
-use Rattle.machine.proofs.BookLaws.{BookLaws, book_laws}
-use Rattle.machine.proofs.ShortValues.{widest_entry}
-use Rattle.machine.proofs.Steps as steps
+use Rattle.records.specs.Records.{IsNumber}
+use Rattle.records.specs.Short.{AreShort}
+use Rattle.records.specs.declared.draft.Handed.{Handed}
+use Rattle.records.specs.Waits.{waiting}
+use Rattle.steps.specs.Machines.{IsAskedEntry}
+use Rattle.steps.specs.Wholes.{contents, whole_state}
+use Rattle.steps.proofs.BookLaws.{BookLaws, book_laws}
+use Rattle.steps.proofs.ShortValues.{widest_entry}
+use Rattle.steps.proofs.Steps as steps
 use Rattle.images.specs.Gatherings.{HoldsAll, GoesAlong}
 use Rattle.txn.specs.Shelved.{book_state, IsJournal}
 use Rattle.txn.specs.Views.{journal_of}
@@ -37,7 +37,7 @@ freeze-requires-clause-asked g c =
     let gathered = c.requires.gathered in
     let book = subst (IsJournal g.B.Boosted.meaning g.B.Parts.making g.B.Parts.collections
     g.B.Parts.whole g.B.Parts.fits) (sym c.self.view_is) (gathered.0, gathered.1) in
-    let s = whole_state g.B.Parts.whole i.names i.accounts book.0 in
+    let s = whole_state g.B.Parts.whole i.names i.transactions book.0 in
     let up = book.1.joined.upheld in
     subst (AllByRecursion IsGood) (sym c.live.ensures.entries)
     (each_both (λ e. Lives s.live e.0) (λ e. IsAskedEntry s.format e.1) IsGood s.entries
@@ -48,11 +48,11 @@ pub returns-clause-answer : goal.returns-clause-answer
 returns-clause-answer g c =
     let i = c.self.inside in
     let made = c.in_ok-reserve_seal.ensures in
-    let there = c.position.ensures ∙
+    let there = c.lsn.ensures ∙
     ap (λ (h : Handed). h.end + length (waiting c.reserve_seal.new.self)) made.handed ∙
     ap (λ l. i.pending.handed.end + length l) made.records in
     rw (← c.self.view_is) (λ f book gathered.
-    let s = whole_state g.B.Parts.whole i.names i.accounts f in
+    let s = whole_state g.B.Parts.whole i.names i.transactions f in
     let many = c.count.ensures.len ∙ as_many g.B.Part.Part.collection g.met.B.Parts.shelf_laws
     i.names (contents f) book.joined.fit in
     let whole = c.in_ok-check_freeze.ensures.ok (g.B.Parts.collections s.now) many in (
@@ -83,7 +83,8 @@ returns-clause-kept g c =
       kept = freeze_keeps g.B.Boosted.meaning g.B.Parts.making
           (λ f s. AreShort f (g.B.Parts.collections s))
           (laws g) _ book.kept
-          (book_state g.B.Parts.whole (journal_of i.names i.accounts c.seal.new.self i.places i.next
+          (book_state g.B.Parts.whole (journal_of i.names i.transactions c.seal.new.self i.places
+          i.next
           c.freeze.new.self) f)
           (ap (λ j. book_state g.B.Parts.whole j f) (sealed_seen i.pending i.gathering
           c.seal.new.self (c.seal.ensures.records ∙ made.records)

@@ -7,9 +7,9 @@ use Rattle.catalog.specs.Fours.{which_of}
 use Rattle.catalog.specs.Making as naming
 use Rattle.catalog.specs.Shelving.{MakesOn}
 use Rattle.catalog.specs.Woven.{names_in}
-use Rattle.record_format.specs.declared.record.Record.{Record}
-use Rattle.blocks.specs.Waits.{waiting}
-use Rattle.shelf.specs.Shelves.{ShelfState}
+use Rattle.records.specs.declared.record.Record.{Record}
+use Rattle.records.specs.Waits.{waiting}
+use Rattle.steps.specs.Shelves.{ShelfState}
 use Rattle.txn.specs.Shelved.{JournalState}
 use Rattle.txn.specs.Views.{journal_of}
 use Rattle.txn.proofs.JournalLemmas.{written, seen}
@@ -31,7 +31,8 @@ returns-in_err-at g c =
     let r = c.from_residual-in_err-at in
     let p = err_from_is_err_and r.result r.ensures.1 in
     let kept = c.in_ok-reserve.ensures in
-    let journal = ap (λ n. journal_of n i.accounts c.reserve.new.self i.places i.next i.gathering)
+    let journal = ap (λ n. journal_of n i.transactions c.reserve.new.self i.places i.next
+    i.gathering)
     c.in_err-at.ensures.names_as_before ∙
     seen i.pending c.reserve.new.self c.self.view_is refl refl kept.records kept.freezes
     kept.handed in

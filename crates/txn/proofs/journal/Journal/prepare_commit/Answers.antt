@@ -3,7 +3,7 @@ use Rattle.std.specs.List.{AllByRecursion}
 use Rattle.calls.specs.Formats.{widest}
 use Rattle.calls.specs.Rules.{IsShort}
 use Rattle.calls.specs.Transactions.{own, laters_of}
-use Rattle.blocks.specs.Waits.{HasRoomFor}
+use Rattle.records.specs.Waits.{HasRoomFor}
 use Rattle.images.proofs.Running.{each_short}
 use Rattle.txn.specs.Shelved.{IsJournal}
 use Rattle.txn.proofs.BookLemmas.{mark_length}
@@ -24,7 +24,7 @@ note_all-requires g c =
     g.B.Parts.whole g.B.Parts.fits) (sym c.self.view_is) c.requires.kept in
     record {
       short = subst (AllByRecursion (λ e. IsShort widest e.call)) (sym c.in_ok-effects.ensures.ok)
-          (ready_short i.gathering _ (each_short c.next_position-position.result _
+          (ready_short i.gathering _ (each_short c.next_lsn-lsn.result _
           (subst (λ es. AllByRecursion (λ e. IsShort widest e.call) (laters_of es)) (sym noted)
           (laters_short g.met.B.Boosted.laws g.met.B.Parts.laws g.met.B.Coded.told
           g.met.B.Parts.shelf_laws _ book c.args.handle.number))));

@@ -1,5 +1,5 @@
 use Rattle.std.proofs.Common.{subst}
-use Rattle.machine.specs.Wholes.{state_on}
+use Rattle.steps.specs.Wholes.{state_on}
 use Rattle.txn.specs.Rows.{CanGet}
 use Rattle.txn.proofs.journal.Journal.take.Goals as goal
 
@@ -12,7 +12,7 @@ returns-else-reads-clause-ok g c = rw c.in-Now.is c.note_call.ensures.ok
 pub returns-in-AtCommit-clause-ok : goal.returns-in-AtCommit-clause-ok
 returns-in-AtCommit-clause-ok g c =
     let can = subst (λ w. CanGet g.B.Shelf.Boosted.meaning w
-    (state_on c.args.self.now.accounts c.args.shelf.now) c.args.handle.number
+    (state_on c.args.self.now.transactions c.args.shelf.now) c.args.handle.number
     (record { at = c.args.at; call = c.args.call.now; reply = c.args.reply.now }))
     c.in-AtCommit.is c.requires.can in
     rw (c.in-AtCommit.is, can.1) c.defer.ensures.ok

@@ -2,9 +2,9 @@ use Rattle.std.proofs.Common.{length, sym, ap, subst, arith}
 use Rattle.std.specs.List.{AllByRecursion}
 use Rattle.std.specs.FinMap as maps
 use Rattle.undo_log.specs.Logs.{Lives}
-use Rattle.machine.specs.Wholes.{whole_state}
-use Rattle.machine.proofs.BookLaws.{book_laws}
-use Rattle.machine.proofs.Steps.{alive}
+use Rattle.steps.specs.Wholes.{whole_state}
+use Rattle.steps.proofs.BookLaws.{book_laws}
+use Rattle.steps.proofs.Steps.{alive}
 use Rattle.txn.specs.Shelved.{IsJournal}
 use Rattle.txn.proofs.UndoCounts.{calls_few}
 use Rattle.txn.proofs.journal.Journal.undoing.Goals as goal
@@ -16,9 +16,9 @@ count_journalled-requires-clause-owned g c =
     g.B.Parts.whole g.B.Parts.fits) (sym c.self.view_is) c.requires in
     subst (λ l. AllByRecursion (λ e. Lives l e.0) c.live-live.result.now.entries)
     (sym c.live-live.ensures.live)
-    (subst (AllByRecursion (λ e. Lives i.accounts.live e.0)) (sym c.live-live.ensures.entries)
+    (subst (AllByRecursion (λ e. Lives i.transactions.live e.0)) (sym c.live-live.ensures.entries)
     (alive g.B.Boosted.meaning g.B.Parts.making (book_laws g.met.B.Boosted.laws g.met.B.Parts.laws
-    g.met.B.Coded.told).rules (whole_state g.B.Parts.whole i.names i.accounts book.0)
+    g.met.B.Coded.told).rules (whole_state g.B.Parts.whole i.names i.transactions book.0)
     book.1.kept.upheld.holds))
 
 pub overflow_add-result : goal.overflow_add-result

@@ -3,11 +3,11 @@ use Rattle.boosted.specs.Meaning.{Undoes}
 use Rattle.calls.specs.Transactions.{Entry}
 use Rattle.undo_log.specs.Entries.{event_of, HasNewestCall, HasNoCall}
 use Rattle.catalog.specs.Fours.{which_of}
-use Rattle.blocks.specs.Waits.{HasRoomFor}
+use Rattle.records.specs.Waits.{HasRoomFor}
 use Rattle.images.specs.Gatherings.{noted, TakesBack}
 use Rattle.images.proofs.Running.{note_kept}
-use Rattle.machine.specs.Machine.{HasNewestRead}
-use Rattle.txn.specs.Shelved.{JournalState, IsOfBook, HasNewestAt, journal_position}
+use Rattle.steps.specs.Machine.{HasNewestRead}
+use Rattle.txn.specs.Shelved.{JournalState, IsOfBook, HasNewestAt, journal_lsn}
 use Rattle.txn.proofs.BookLemmas.{mark_length}
 use Rattle.txn.proofs.JournalLemmas.{written}
 use Rattle.txn.proofs.JournalEnds.{newest_there, newest_at, undo_here, reply_short, reach_here}
@@ -17,9 +17,9 @@ use Rattle.txn.proofs.journal.Journal.write_back.Goals as goal
 pub unreachable-requires : goal.unreachable-requires
 unreachable-requires g c =
     let on = c.requires.newest in
-    newest_there c.args.handle.number c.args.self.now.accounts.entries on.0 on.1
+    newest_there c.args.handle.number c.args.self.now.transactions.entries on.0 on.1
     (subst (HasNoCall c.args.handle.number)
-    (c.live.ensures.entries ∙ ap (λ (j : JournalState _). j.accounts.entries) c.self.view_is)
+    (c.live.ensures.entries ∙ ap (λ (j : JournalState _). j.transactions.entries) c.self.view_is)
     c.in_default.ensures.none)
 
 pub push-requires-clause-room : goal.push-requires-clause-room
@@ -36,7 +36,7 @@ effect_of_undoing-requires-clause-askable g c =
     c.requires.kept in
     let new = subst (λ (es : List (ℕ × Entry)). HasNewestCall c.args.handle.number es x)
     c.live.ensures.entries c.in-Some.ensures.found in
-    let on = subst (λ (j : JournalState _). HasNewestAt c.args.handle.number j.accounts.entries
+    let on = subst (λ (j : JournalState _). HasNewestAt c.args.handle.number j.transactions.entries
     c.args.at)
     (sym c.self.view_is) c.requires.newest in
     (undo_here g.met.B.Boosted.laws g.met.B.Parts.laws g.met.B.Coded.told
@@ -52,7 +52,7 @@ effect_of_undoing-requires-clause-told g c =
     c.requires.kept in
     let new = subst (λ (es : List (ℕ × Entry)). HasNewestCall c.args.handle.number es x)
     c.live.ensures.entries c.in-Some.ensures.found in
-    let on = subst (λ (j : JournalState _). HasNewestAt c.args.handle.number j.accounts.entries
+    let on = subst (λ (j : JournalState _). HasNewestAt c.args.handle.number j.transactions.entries
     c.args.at)
     (sym c.self.view_is) c.requires.newest in
     reply_short g.met.B.Boosted.laws g.met.B.Parts.laws g.met.B.Coded.told
@@ -67,7 +67,7 @@ effect_of_undoing-requires-clause-undoes g c =
     c.requires.kept in
     let new = subst (λ (es : List (ℕ × Entry)). HasNewestCall c.args.handle.number es x)
     c.live.ensures.entries c.in-Some.ensures.found in
-    let on = subst (λ (j : JournalState _). HasNewestAt c.args.handle.number j.accounts.entries
+    let on = subst (λ (j : JournalState _). HasNewestAt c.args.handle.number j.transactions.entries
     c.args.at)
     (sym c.self.view_is) c.requires.newest in
     let can = (undo_here g.met.B.Boosted.laws g.met.B.Parts.laws g.met.B.Coded.told
@@ -81,7 +81,7 @@ effect_of_undoing-requires-clause-undoes g c =
 pub back-requires-clause-call : goal.back-requires-clause-call
 back-requires-clause-call g c =
     let x = event_of c.in-Some.newest.now in
-    newest_there c.args.handle.number c.self.inside.accounts.entries x
+    newest_there c.args.handle.number c.self.inside.transactions.entries x
     (subst (λ (es : List (ℕ × Entry)). HasNewestCall c.args.handle.number es x)
     c.live.ensures.entries
     c.in-Some.ensures.found)
@@ -95,7 +95,7 @@ back-requires-clause-undoes g c =
     c.requires.kept in
     let new = subst (λ (es : List (ℕ × Entry)). HasNewestCall c.args.handle.number es x)
     c.live.ensures.entries c.in-Some.ensures.found in
-    let on = subst (λ (j : JournalState _). HasNewestAt c.args.handle.number j.accounts.entries
+    let on = subst (λ (j : JournalState _). HasNewestAt c.args.handle.number j.transactions.entries
     c.args.at)
     (sym c.self.view_is) c.requires.newest in
     undo_here g.met.B.Boosted.laws g.met.B.Parts.laws g.met.B.Coded.told
@@ -110,7 +110,7 @@ back-requires-clause-reach g c =
     c.requires.kept in
     let new = subst (λ (es : List (ℕ × Entry)). HasNewestCall c.args.handle.number es x)
     c.live.ensures.entries c.in-Some.ensures.found in
-    let on = subst (λ (j : JournalState _). HasNewestAt c.args.handle.number j.accounts.entries
+    let on = subst (λ (j : JournalState _). HasNewestAt c.args.handle.number j.transactions.entries
     c.args.at)
     (sym c.self.view_is) c.requires.newest in
     reach_here g.met.B.Boosted.laws g.met.B.Parts.laws g.met.B.Coded.told
@@ -125,22 +125,22 @@ returns-clause-ok g c =
     c.requires.kept in
     let new = subst (λ (es : List (ℕ × Entry)). HasNewestCall c.args.handle.number es x)
     c.live.ensures.entries c.in-Some.ensures.found in
-    let on = subst (λ (j : JournalState _). HasNewestAt c.args.handle.number j.accounts.entries
+    let on = subst (λ (j : JournalState _). HasNewestAt c.args.handle.number j.transactions.entries
     c.args.at)
     (sym c.self.view_is) c.requires.newest in
     let meaning = g.B.Shelf.Boosted.meaning in
     let room = subst (λ (j : JournalState _). length j.pending < 16384) (sym c.self.view_is)
     c.requires.room in
     let unread = subst (λ (j : JournalState _). HasNewestRead c.args.handle.number
-    j.accounts.entries → ⊥)
+    j.transactions.entries → ⊥)
     (sym c.self.view_is) c.requires.written in
-    let next = c.next_position-position.ensures ∙
-    ap (λ (j : JournalState _). journal_position j + 1) (sym c.self.view_is) in
+    let next = c.next_lsn-lsn.ensures ∙
+    ap (λ (j : JournalState _). journal_lsn j + 1) (sym c.self.view_is) in
     let undoing = c.in_ok-effect.ensures.ok in
     let before = undoing.0 in
     let es = undoing.1 in
     let takes = subst (λ p. TakesBack meaning p x es c.args.shelf.now.now before) next
-    (subst (λ v. TakesBack meaning c.next_position-position.result x es v before)
+    (subst (λ v. TakesBack meaning c.next_lsn-lsn.result x es v before)
     c.collections.ensures undoing.2) in
     let notes = c.note.ensures ∙ ap (noted i.gathering) undoing.3 ∙ note_kept i.gathering es in
     let reserved = c.in_ok-reserve.ensures in

@@ -17,6 +17,6 @@ returns-clause-found c =
 
 pub unreachable-requires : goal.unreachable-requires
 unreachable-requires c =
-    let put_off = ap (λ v. v.entry) c.index-entries-place.is ∙ c.in-PutOff.is in
+    let deferred = ap (λ v. v.entry) c.index-entries-place.is ∙ c.in-Deferred.is in
     newest_asked c.entries_of-entries.result.now c.in_ok-place.place c.index-entries-place.result
-    c.index-entries-place.is c.in_ok-place.ensures.found c.in-PutOff.field-0 put_off
+    c.index-entries-place.is c.in_ok-place.ensures.found c.in-Deferred.field-0 deferred

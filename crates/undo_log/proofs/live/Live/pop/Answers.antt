@@ -114,4 +114,4 @@ unreachable-requires c =
     c.deref.result.now c.in_ok-place.place c.deref.ensures.value c.index.ensures
     c.index_mut.ensures.value c.in_ok-place.ensures.found in
     newest_asked was.entries.items c.in_ok-place.place c.remove-entry.result
-    c.remove-entry.ensures.value place c.in-PutOff.field-0 c.in-PutOff.is
+    c.remove-entry.ensures.value place c.in-Deferred.field-0 c.in-Deferred.is

@@ -1,4 +1,4 @@
-use Rattle.world.proofs.OfBook.{of_step, ask_same}
+use Rattle.engine.proofs.OfBook.{of_step, ask_same}
 use Rattle.world.proofs.CoreLemmas.{ask_taken}
 use Rattle.world.proofs.world.World.ask.Goals as goal
 

@@ -1,4 +1,4 @@
-use Rattle.world.proofs.OfBook.{of_step, back_same}
+use Rattle.engine.proofs.OfBook.{of_step, back_same}
 use Rattle.world.proofs.CoreLemmas.{back_taken}
 use Rattle.world.proofs.world.World.back.Goals as goal
 

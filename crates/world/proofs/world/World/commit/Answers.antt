@@ -1,4 +1,4 @@
-use Rattle.world.proofs.OfBook.{of_step, commit_same}
+use Rattle.engine.proofs.OfBook.{of_step, commit_same}
 use Rattle.world.proofs.CoreLemmas.{commit_taken}
 use Rattle.world.proofs.world.World.commit.Goals as goal
 

@@ -3,7 +3,7 @@ use Rattle.std.proofs.lemmas.Result.{err_from_is_err_and}
 use Rattle.txn.specs.Undoings.{undo_count}
 use Rattle.engine.specs.Rooms.{MayHandOver}
 use Rattle.world.specs.Moves.{IsRoomPast}
-use Rattle.world.proofs.OfBook.{of_cut}
+use Rattle.engine.proofs.OfBook.{of_cut}
 use Rattle.world.proofs.CoreLemmas.{cut_taken, cut_barred}
 use Rattle.world.proofs.world.World.cut.Goals as goal
 

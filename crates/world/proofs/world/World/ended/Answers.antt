@@ -1,4 +1,4 @@
-use Rattle.world.proofs.OfBook.{of_step, ended_same}
+use Rattle.engine.proofs.OfBook.{of_step, ended_same}
 use Rattle.world.proofs.CoreLemmas.{ended_taken}
 use Rattle.world.proofs.world.World.ended.Goals as goal
 

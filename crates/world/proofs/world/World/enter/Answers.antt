@@ -1,4 +1,4 @@
-use Rattle.world.proofs.OfBook.{of_step, enter_same}
+use Rattle.engine.proofs.OfBook.{of_step, enter_same}
 use Rattle.world.proofs.CoreLemmas.{enter_taken}
 use Rattle.world.proofs.world.World.enter.Goals as goal
 

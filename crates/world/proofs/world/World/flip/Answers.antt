@@ -1,9 +1,11 @@
 use Rattle.std.proofs.Common.{◌≡◌, ◌≤◌, refl, arith, ap, ◌∙◌}
-use Rattle.world.specs.declared.steps.Step.{Step}
-use Rattle.world.specs.declared.steps.Answer.{Answer}
-use Rattle.world.specs.Pasts.{outcome, mark_flipped}
+use Rattle.world.specs.declared.step.Step.{Step}
+use Rattle.world.specs.declared.step.Answer.{Answer}
+use Rattle.world.specs.Pasts.{outcome}
+use Rattle.engine.specs.Marks.{mark_flipped}
 use Rattle.world.proofs.AnswerLemmas.{flip_answered}
-use Rattle.world.proofs.KeeperSteps.{imaged, flip_mark_is, flip_mark_rises, flip_told}
+use Rattle.world.proofs.KeeperSteps.{imaged, flip_told}
+use Rattle.engine.proofs.KeeperLemmas.{flip_mark_is, flip_mark_rises}
 use Rattle.world.proofs.world.World.flip.Given.{Over}
 use Rattle.world.proofs.world.World.flip.Goals as goal
 

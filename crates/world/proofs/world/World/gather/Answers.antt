@@ -1,7 +1,7 @@
 use Rattle.std.proofs.Common.{inl, inr, refl, ap, Ok, Err}
 use Rattle.std.proofs.lemmas.Result.{err_from_is_err_and}
-use Rattle.world.specs.declared.steps.Answer.{Answer}
-use Rattle.world.proofs.OfBook.{of_repeated, of_gathered, of_ungathered}
+use Rattle.world.specs.declared.step.Answer.{Answer}
+use Rattle.engine.proofs.OfBook.{of_repeated, of_gathered, of_ungathered}
 use Rattle.world.proofs.GatherSteps.{gather_taken, gather_refused}
 use Rattle.world.proofs.world.World.gather.Goals as goal
 

@@ -1,8 +1,8 @@
 use Rattle.std.proofs.Common.{subst}
-use Rattle.txn.specs.declared.steps.Action.{Action}
+use Rattle.txn.specs.declared.actions.Action.{Action}
 use Rattle.txn.specs.Books.{Takes}
 use Rattle.catalog.specs.Meaning.{catalog_meaning, catalog_making}
-use Rattle.world.proofs.OfBook.{of_step, make_same}
+use Rattle.engine.proofs.OfBook.{of_step, make_same}
 use Rattle.world.proofs.CoreLemmas.{make_taken}
 use Rattle.world.proofs.world.World.make.Goals as goal
 

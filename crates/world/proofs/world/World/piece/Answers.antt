@@ -2,12 +2,13 @@ use Rattle.std.proofs.Common.{refl, sym, ◌∙◌, subst, arith, inl, inr, ◌�
 use Rattle.std.specs.Option.{IsSomeAnd}
 use Rattle.checkpoint.specs.Imaging.{HasPiece}
 use Rattle.calls.specs.declared.refusal.Refusal.{Refusal}
-use Rattle.world.specs.declared.steps.Step.{Step}
-use Rattle.world.specs.declared.steps.Answer.{Answer}
+use Rattle.world.specs.declared.step.Step.{Step}
+use Rattle.world.specs.declared.step.Answer.{Answer}
 use Rattle.world.specs.Pasts.{outcome}
 use Rattle.world.proofs.AnswerLemmas.{piece_answered}
 use Rattle.world.proofs.StepLemmas.{passes, quiet}
-use Rattle.world.proofs.KeeperSteps.{imaged, piece_mark, piece_told}
+use Rattle.world.proofs.KeeperSteps.{imaged, piece_told}
+use Rattle.engine.proofs.KeeperLemmas.{piece_mark}
 use Rattle.world.proofs.world.World.piece.Given.{Over}
 use Rattle.world.proofs.world.World.piece.Goals as goal
 

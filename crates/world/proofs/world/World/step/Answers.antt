@@ -1,5 +1,5 @@
-use Rattle.world.specs.declared.steps.Step.{Step}
-use Rattle.world.specs.declared.steps.Answer.{Answer}
+use Rattle.world.specs.declared.step.Step.{Step}
+use Rattle.world.specs.declared.step.Answer.{Answer}
 use Rattle.world.proofs.AnswerLemmas.{wrapped}
 use Rattle.world.proofs.world.World.step.Goals as goal
 

@@ -1,9 +1,10 @@
 use Rattle.std.proofs.Common.{◌≡◌, ◌<◌, ◌≤◌, ◌+◌, length, List, ap, ◌++◌, [], ◌∙◌, refl, arith, sym}
 use Rattle.disk_model.specs.Disk.{Rises}
-use Rattle.gate_block.specs.Area.{size_of, position_of}
+use Rattle.gate_block.specs.Area.{size_of, offset_of}
 use Rattle.checkpoint.specs.Keepers.{IsPast}
-use Rattle.world.specs.Pasts.{mark_behind}
-use Rattle.world.proofs.KeeperSteps.{mark_rises, mark_is, some_received, turned}
+use Rattle.engine.specs.Marks.{mark_behind}
+use Rattle.world.proofs.KeeperSteps.{turned}
+use Rattle.engine.proofs.KeeperLemmas.{mark_rises, mark_is, some_received}
 use Rattle.world.proofs.AnswerLemmas.{turn_answered}
 use Rattle.world.proofs.world.World.turn.Given.{Over}
 use Rattle.world.proofs.world.World.turn.Goals as goal
@@ -19,7 +20,7 @@ behind g c =
     c.turn-turned.new.inbox.blocks.items)
     (w.transit.blocks.items ≡ []) w.keeper.failed new.failed w.keeper.mark new.mark
     (λ b. b.end ≤ w.keeper.covered) (λ b. IsPast w.keeper.stage b.end)
-    (λ b. size_of w.keeper.area < position_of w.keeper.area + length b.bytes.items) _
+    (λ b. size_of w.keeper.area < offset_of w.keeper.area + length b.bytes.items) _
     (Rises (g.D.Disk.fault_count w.keeper.disk) (g.D.Disk.fault_count new.disk))
     c.turn-turned.result new.held c.turn-turned.ensures.answer
 
@@ -31,7 +32,7 @@ marked g c =
     (λ bs. w.transit.blocks.items ≡ bs ++ c.turn-turned.new.inbox.blocks.items)
     (w.transit.blocks.items ≡ []) w.keeper.failed new.failed w.keeper.mark new.mark
     (λ b. b.end ≤ w.keeper.covered) (λ b. IsPast w.keeper.stage b.end)
-    (λ b. size_of w.keeper.area < position_of w.keeper.area + length b.bytes.items) _
+    (λ b. size_of w.keeper.area < offset_of w.keeper.area + length b.bytes.items) _
     (Rises (g.D.Disk.fault_count w.keeper.disk) (g.D.Disk.fault_count new.disk))
     c.turn-turned.result new.held c.turn-turned.ensures.answer in
     omega (arith, rises, c.self.invariant.0, c.mark_after-self-inside.ensures, behind g c)
@@ -46,7 +47,7 @@ took g c =
     (λ bs. w.transit.blocks.items ≡ bs ++ c.turn-turned.new.inbox.blocks.items)
     (w.transit.blocks.items ≡ []) w.keeper.failed new.failed w.keeper.mark new.mark
     (λ b. b.end ≤ w.keeper.covered) (λ b. IsPast w.keeper.stage b.end)
-    (λ b. size_of w.keeper.area < position_of w.keeper.area + length b.bytes.items) _
+    (λ b. size_of w.keeper.area < offset_of w.keeper.area + length b.bytes.items) _
     (Rises (g.D.Disk.fault_count w.keeper.disk) (g.D.Disk.fault_count new.disk))
     c.turn-turned.result new.held c.turn-turned.ensures.answer
 

@@ -1,2 +1,0 @@
-pub mod ArgumentCommands
-pub mod ArgumentNumbers

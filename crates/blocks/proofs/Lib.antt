@@ -1,6 +1,0 @@
-pub mod Places
-pub mod DraftLemmas
-pub mod PendingLemmas
-pub mod Next
-pub mod Packed
-pub mod Carrying

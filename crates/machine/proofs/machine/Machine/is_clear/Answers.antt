@@ -1,5 +1,0 @@
-use Rattle.std.proofs.Common.{rules}
-use Rattle.machine.proofs.machine.Machine.is_clear.Goals as goal
-
-pub returns : goal.returns
-returns g c = search rules

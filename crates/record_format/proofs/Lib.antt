@@ -1,2 +1,0 @@
-pub mod CallRecords
-pub mod RecordLengths

@@ -1,4 +1,0 @@
-pub mod Records
-pub mod Acts
-pub mod Short
-pub mod Reached

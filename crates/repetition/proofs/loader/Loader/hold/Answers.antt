@@ -1,6 +1,0 @@
-use Rattle.repetition.proofs.LoadAlikes.{live_answers_alike}
-use Rattle.repetition.proofs.loader.Loader.hold.Goals as goal
-
-pub returns : goal.returns
-returns g c = live_answers_alike g.B.Boosted.meaning c.args.self.now c.args.entry c.step.result
-    c.step.new.self c.step.ensures

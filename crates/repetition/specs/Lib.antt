@@ -1,6 +1,0 @@
-pub mod Journals
-pub mod Steps
-pub mod Lagging
-pub mod Reading
-pub mod Repetitions
-pub mod Loading

@@ -1,0 +1,8 @@
+pub mod Journals
+pub mod Steps
+pub mod Lagging
+pub mod Reading
+pub mod Repetitions
+pub mod Loading
+pub mod Undoing
+pub mod Appending

@@ -1,4 +1,0 @@
-use Rattle.shelf.proofs.Shelf.settle.Goals as goal
-
-pub returns-clause-holds : goal.returns-clause-holds
-returns-clause-holds g c = rw (← c.self.view_is) c.give_up.ensures.holds

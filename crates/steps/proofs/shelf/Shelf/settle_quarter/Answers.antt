@@ -1,0 +1,4 @@
+use Rattle.steps.proofs.shelf.Shelf.settle_quarter.Goals as goal
+
+pub returns-clause-holds : goal.returns-clause-holds
+returns-clause-holds g c = rw (← c.self.view_is) c.give_up.ensures.holds

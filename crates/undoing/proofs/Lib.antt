@@ -1,4 +1,0 @@
-pub mod UndoRecords
-pub mod AppendLemmas
-pub mod Walks
-pub mod UndoLemmas

@@ -1,2 +1,0 @@
-pub mod Undoing
-pub mod Appending
