@@ -156,7 +156,7 @@ def the_server_goes_and_comes():
     assert until(lambda: metrics_of(place.get('metrics')) == {'boost_up': 0}) and place.process.poll() is None
     away = Reader(place.get())
     assert 'No server answers' in ' '.join(away.words) and ['set', 'jobs', '100'] in away.rows
-    assert ' '.join(away.words).count('no answer') == 4
+    assert ' '.join(away.words).count('no answer') == 5
     began = time.monotonic()
     place.serve()
     until(lambda: metrics_of(place.get('metrics'))['boost_up'] == 1)
@@ -259,7 +259,7 @@ def chromium_shows_it():
     fill(place.store)
     until(lambda: metrics_of(place.get('metrics')).get('boost_collection_items{kind="set",name="jobs"}') == 100)
     read = Reader(re.sub(r'<(/?)tbody>', '', chromium(place, '--dump-dom').replace('<!DOCTYPE html>', '')))
-    assert ['set', 'jobs', '100'] in read.rows and read.tags['svg'] == 4, read.rows
+    assert ['set', 'jobs', '100'] in read.rows and read.tags['svg'] == 5, read.rows
     picture = os.path.join(place.room.name, 'page.png')
     chromium(place, f'--screenshot={picture}')
     with open(picture, 'rb') as file:
