@@ -5,11 +5,12 @@
 _boost_options() {
     case "$1" in
         format) echo '--area --format --reserve --group --force --help' ;;
-        listen) echo '--idle --shell --help' ;;
+        listen) echo '--idle --shell --log --help' ;;
         serve) echo '--why --help' ;;
         show) echo '--read-only --help' ;;
         stat) echo '--json --help' ;;
-        copy) echo '--area --group --help' ;;
+        copy) echo '--area --group --without --rename --help' ;;
+        status) echo '--json --prometheus --watch --help' ;;
         play | check | upgrade | lint | demo) echo '--help' ;;
         '') echo '--help --version' ;;
     esac
@@ -18,7 +19,7 @@ _boost_options() {
 # The commands; of the script `boost` of the sources, which has the folder `release` beside it, its own too.
 _boost_commands() {
     echo 'format play serve listen show check stat copy upgrade lint demo help'
-    [[ $1 == */* && -d ${1%/*}/release ]] && echo 'build test which install uninstall --quiet'
+    [[ $1 == */* && -d ${1%/*}/release ]] && echo 'build test which status install uninstall --quiet'
 }
 
 _boost() {

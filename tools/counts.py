@@ -2,13 +2,14 @@
 """counts.py [PROGRAM]: counts what says how large the code is: crates, lines, edges of crates.txt, and the functions that a step enters.
 
 An edge is for contracts alone where no line of the crate's code names the library. Paths are those from boost_main down, by all edges
-and by those of code. With the proved program (crates/boost_main/out), and valgrind, it counts how often functions of our crates are
-entered: by one more transaction of a script that is played (begin, call, commit, turn), by one more line of a client of `listen` until
-it is kept, and by an opening with a transaction to undo. Each is the difference of two runs, one with it and one without.
+and by those of code. With a program in which each function has its own entry, as `tools/build.py unproved` builds it, and gdb, it
+counts how often functions of our crates are entered: by one more line of a client of `listen`, as the difference of two runs, and by an
+opening with a transaction to undo. That takes some minutes.
 """
 import collections
 import functools
 import glob
+import json
 import os
 import re
 import subprocess
@@ -69,27 +70,48 @@ def paths(named, found):
     return count('boost_main')
 
 
-def called(program, named, words, lines):
-    """How often a run of the program on these lines of input enters each function of our crates."""
-    ours = re.compile(rf'(?:{"|".join(named)})::')
-    with tempfile.TemporaryDirectory() as room:
-        counted, bare = os.path.join(room, 'counted'), os.path.join(room, 'program')
-        subprocess.run(['objcopy', '--strip-debug', program, bare], check=True)
-        subprocess.run(['valgrind', '--tool=callgrind', f'--callgrind-out-file={counted}', bare, *words], input=lines, text=True,
-                       capture_output=True, check=True, timeout=600)
-        names, found, callee = {}, collections.Counter(), ''
-        with open(counted, encoding='utf-8', errors='replace') as file:
-            for line in file:
-                named_so = re.match(r'(c?fn)=\((\d+)\)(?: (.*))?$', line)
-                if named_so:
-                    names.setdefault(named_so[2], named_so[3])
-                    callee = names[named_so[2]]
-                elif line.startswith('calls=') and ours.match(callee):
-                    found[callee] += int(line[len('calls='):].split()[0])
-    return found
+# What gdb runs: it stops at the entry of each function, counts that, and goes on.
+GDB = """
+import collections, gdb, json
+class Entry(gdb.Breakpoint):
+    def stop(self):
+        found[self.name] += 1
+        return False
+found, points = collections.Counter(), json.loads(POINTS)
+gdb.execute('set pagination off')
+gdb.execute('starti ' + WORDS)
+maps = gdb.execute('info proc mappings', to_string=True).splitlines()
+base = next(int(line.split()[0], 16) for line in maps if line.endswith(PROGRAM))
+for at, name in points:
+    entry = Entry(f'*{base + at}', internal=True)
+    entry.name = name
+gdb.execute('continue')
+json.dump(found, open(FOUND, 'w'))
+"""
 
 
-def on_new_disk(program, named, before, words, lines):
+def entries(program, named):
+    """Where each function of our crates begins in the program, but for closures and what is derived."""
+    symbols = subprocess.run(['nm', program], capture_output=True, text=True, check=True).stdout
+    found = re.findall(rf'^([0-9a-f]+) [tT] ((?:{"|".join(named)})::[^+\n]*)$', symbols, re.M)
+    return [(int(at, 16), name) for at, name in found]
+
+
+def entered(program, points, room, words, lines):
+    """How often a run of the program on these lines of input enters each of them."""
+    typed, found, script = (os.path.join(room, name) for name in ('typed', 'found', 'script.py'))
+    with open(typed, 'w', encoding='utf-8') as file:
+        file.write(lines)
+    run = f'{" ".join(words)} < {typed} > {room}/told'
+    with open(script, 'w', encoding='utf-8') as file:
+        file.write(f'POINTS, WORDS, PROGRAM, FOUND = {json.dumps(points)!r}, {run!r}, {program!r}, {found!r}\n{GDB}')
+    subprocess.run(['gdb', '-q', '-batch', '-x', script, program], capture_output=True, check=True, timeout=1200,
+                   env={**os.environ, 'ASAN_OPTIONS': 'detect_leaks=0'})
+    with open(found, encoding='utf-8') as file:
+        return collections.Counter(json.load(file))
+
+
+def on_new_disk(program, points, before, words, lines):
     """The same of a command on a new disk, on which a script was played."""
     with tempfile.TemporaryDirectory() as room:
         disk, script = os.path.join(room, 'disk'), os.path.join(room, 'script')
@@ -97,28 +119,25 @@ def on_new_disk(program, named, before, words, lines):
         with open(script, 'w', encoding='utf-8') as file:
             file.write(before)
         subprocess.run([program, 'play', disk, script], check=True, stdout=subprocess.DEVNULL)
-        return called(program, named, [words[0], disk, *words[1:]], lines)
+        return entered(program, points, room, [words[0], disk, *words[1:]], lines)
 
 
 def tell(what, fewer, more, times):
     """Tells what so many steps more enter, each."""
     gone = {name: (more[name] - fewer[name]) / times for name in more if more[name] > fewer[name]}
-    print(f'entered by {what}: {sum(gone.values()):.0f}, of them different: {len(gone)}')
+    print(f'entered by {what}: {sum(gone.values()):.0f}, of them different: {len(gone)},',
+          f'searches of a transaction: {gone.get("undo_log::live::place_of", 0):.0f}', flush=True)
 
 
 def walks(program, named):
+    points = entries(program, named)
     made = 'c1 make counter hits\nturn\n'
-    bump = 'c1 begin\nc1 call hits bump 1\nc1 commit\nturn\n'
-    kept = 'c1 keep hits bump 1\n'
-    def plays(count):
-        return on_new_disk(program, named, made, ['play', '/dev/stdin'], bump * count)
     def listens(count):
-        return on_new_disk(program, named, made, ['listen'], kept * (count + 3) + 'end\n')
-    tell('a transaction that is played', plays(1), plays(2), 1)
-    tell('a line of a client until it is kept', listens(0), listens(20), 20)
+        return on_new_disk(program, points, made, ['listen'], 'c1 do hits bump 1\n' * (count + 2) + 'c1 keep hits bump 1\nend\n')
+    tell('a line of a client, and the committer meanwhile', listens(0), listens(10), 10)
     left = made + 'c1 begin\n' + 'c1 call hits bump 1\n' * 6 + 'turn\n'
-    tell('an opening with 8 records, and a transaction to undo, more than by one with a make',
-         on_new_disk(program, named, made, ['show'], ''), on_new_disk(program, named, left, ['show'], ''), 1)
+    tell('an opening with 8 records, and a transaction to undo', collections.Counter(),
+         on_new_disk(program, points, left, ['show'], ''), 1)
 
 
 def main():
@@ -130,7 +149,7 @@ def main():
     print('edges:', len(found), 'of them for contracts alone:', len(found) - len(by_code))
     print('paths from boost_main:', paths(named, found), 'by code:', paths(named, by_code))
     if len(sys.argv) > 1:
-        walks(os.path.abspath(sys.argv[1]), named)
+        walks(os.path.realpath(sys.argv[1]), named)
 
 
 if __name__ == '__main__':

@@ -159,7 +159,7 @@ def completed(folder, *words):
 
 def the_completion_knows_the_help():
     options = helped(run(BOOST, 'which').strip())
-    own = {'build', 'test', 'which', 'install', 'uninstall', '--quiet'}
+    own = {'build', 'test', 'which', 'status', 'install', 'uninstall', '--quiet'}
     with tempfile.TemporaryDirectory() as folder:
         for name in ('my store', 'mine'):
             open(os.path.join(folder, name), 'w', encoding='utf-8').close()

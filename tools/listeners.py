@@ -652,14 +652,16 @@ def how_the_store_stands():
         kept = store.status()
         assert (kept.live, kept.waiting, [each.items for each in kept.collections]) == (0, 0, [1, 1, 0]), kept
         assert (kept.commits, kept.aborts, kept.busy) == (5, 1, {'map': 1}) and kept.blocks > begun.blocks, kept
-        assert kept.used > begun.used
+        assert kept.used > begun.used and kept.syncs > begun.syncs and kept.written > begun.written, (begun, kept)
     place.end()
     # (what the next image takes is told too large while a server runs, and to the byte by `stat`; and each server counts anew)
-    kept = kept._replace(checkpoint=0, commits=0, aborts=0, blocks=0, busy={})
+    anew = dict.fromkeys(('checkpoint', 'commits', 'aborts', 'blocks', 'clients', 'syncs', 'written', 'longest_write',
+                          'last_checkpoint'), 0)
+    kept = kept._replace(busy={}, **anew)
     assert kept == stat(place.disk)._replace(checkpoint=0), (kept, stat(place.disk))
     place.serve()
     with boost.join(place.door) as store:
-        assert store.status()._replace(checkpoint=0) == kept, (store.status(), kept)
+        assert store.status()._replace(**anew) == kept, (store.status(), kept)
     place.end()
     return '7 answers'
 

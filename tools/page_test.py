@@ -22,7 +22,7 @@ TOP = os.path.dirname(os.path.dirname(os.path.realpath(__file__)))
 sys.path.insert(0, os.path.join(TOP, 'clients', 'python'))
 sys.dont_write_bytecode = True
 import boost  # noqa: E402
-from boost import page as pages  # noqa: E402
+from boost import page as pages, status  # noqa: E402
 
 BOOST = os.path.join(TOP, 'boost')
 CHROMIUM = shutil.which('chromium') or shutil.which('chromium-browser') or shutil.which('google-chrome')
@@ -186,7 +186,7 @@ def a_device_that_stands_still():
     for rows in ([(0, 50), (3, 80), (4, 80), (9, 80)], [(3, 80), (0, 80), (4, 80)], [(3, 80), (4, 90)], [(3, 80), (0, 90)],
                  [(3, 80), None]):
         watch = pages.Watch('/x', 5)
-        watch.state, watch.why = pages.state_of('format 1; area 100; used 80; waiting 3'), ''
+        watch.state, watch.why = status.state_of('format 1; area 100; used 80; waiting 3'), ''
         watch.samples.extend(pages.Sample(now - 20 + 6 * at, {'waiting': row[0], 'used': row[1], 'in_use': 0} if row else {})
                              for at, row in enumerate(rows))
         seen = watch.seen()
@@ -201,7 +201,7 @@ def parts_that_nobody_knows():
     answer = ('format 3; area 100; used 90; fsyncs 17; lag 0.5; clients 3 of 64; live 2; commits 12; '
               'busy map 5; collection map m 3 55; collection set <b> 4; failed')
     watch = pages.Watch('/x<script>', 5)
-    watch.state, watch.why = pages.state_of(answer), ''
+    watch.state, watch.why = status.state_of(answer), ''
     watch.samples.extend([pages.Sample(time.time() - 5, {'commits': 2}), pages.Sample(time.time(), watch.state.numbers)])
     seen = watch.seen()
     read = Reader(pages.page_of(seen))

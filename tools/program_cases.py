@@ -1,9 +1,9 @@
 #!/usr/bin/env python3
-"""program_cases.py [PROGRAM]: plays the cases of tools/data/program_cases with the program itself, each command line as a process on
-files, and compares what is told with the file `stdout` there.
+"""program_cases.py [PROGRAM [FOLDER]]: plays the cases of a folder, tools/data/program_cases without one, with the program itself, each
+command line as a process on files, and compares what is told with the file `stdout` there.
 
 The other files of that folder are cases, which docs/CASES.md explains. Each is played in a new folder, one case after another, and what
-is left in the folder at its end is told. The program is the one that `./boost` runs, unless one is named. A line that is not understood,
+is left in the folder at its end is told. How far a command is, which it says every ten seconds, is not told. The program is the one that `./boost` runs, unless one is named. A line that is not understood,
 or that the system refuses, ends the run. Prints how much was played, and status 0, or the difference, and status 1.
 """
 import difflib
@@ -15,8 +15,10 @@ import sys
 import tempfile
 
 TOP = os.path.dirname(os.path.dirname(os.path.realpath(__file__)))
-DATA = os.path.join(TOP, 'tools', 'data', 'program_cases')
+DATA = os.path.join('tools', 'data', 'program_cases')
 WANTED = 'stdout'
+# What a command says by the clock.
+PROGRESS = re.compile(r'boost: (opening|copying|upgrading), [0-9]+ MB')
 # What a command may take.
 SECONDS = 300
 
@@ -49,13 +51,18 @@ def lines_of(output):
     return output.decode(errors='backslashreplace').removesuffix('\n').split('\n') if output else []
 
 
+def is_of_end(line):
+    """Whether a line that was printed names a client, tells its end, or was refused Backlog."""
+    return line.startswith(('c', 'end: ')) or line.endswith('Backlog')
+
+
 class Bench:
     """A folder in which the cases of a file are played, the script that is being written, how many lines of what the next run prints are
-    told (all where it is none), and what was told."""
+    told (all where it is none), whether of these the ends alone, and what was told."""
 
     def __init__(self, program, folder):
         self.program, self.folder, self.told = program, folder, []
-        self.script, self.last = '', None
+        self.script, self.last, self.ends_alone = [], None, False
         self.cases = self.runs = 0
 
     def path(self, name):
@@ -65,19 +72,19 @@ class Bench:
         """Adds lines to the script, once for each number, which stands where the first `#` of a line is."""
         first, end, lines = split(text, 3)
         for count in range(number(first), number(end)):
-            self.script += ''.join(line.replace('#', str(count), 1) + '\n' for line in lines.split('; '))
+            self.script += [line.replace('#', str(count), 1) for line in lines.split('; ')]
 
     def play(self, line):
         """Does what a line asks. What is no question is not told."""
         if not line or line.startswith('#'):
             return
         if line.startswith('| '):
-            self.script += line.removeprefix('| ') + '\n'
+            self.script.append(line.removeprefix('| '))
         elif line.startswith('repeat '):
             self.add_lines(line.removeprefix('repeat '))
         elif line.startswith('@ '):
             self.told.append(brief(line))
-            self.script, self.last = '', None
+            self.script, self.last, self.ends_alone = [], None, False
             self.cases += 1
         else:
             word, _, rest = line.partition(' ')
@@ -89,12 +96,14 @@ class Bench:
     def tell_run(self, ran):
         """Tells a status, the last lines of what was printed, and each line of the errors behind a mark."""
         printed, last, self.last = lines_of(ran.stdout), self.last, None
+        if self.ends_alone:
+            printed, self.ends_alone = [line for line in printed if is_of_end(line)], False
         before = 0 if last is None else max(0, len(printed) - last)
         self.told.append(f'= {ran.returncode}')
         if before:
             self.told.append(f'({before} lines)')
         self.told += [brief(line) for line in printed[before:]]
-        self.told += [f'! {brief(line)}' for line in lines_of(ran.stderr)]
+        self.told += [f'! {brief(line)}' for line in lines_of(ran.stderr) if not PROGRESS.match(line)]
 
 
 def run_program(bench, text):
@@ -114,6 +123,13 @@ def run_beside(bench, text):
         run_program(bench, words)
 
 
+def tell_ends(bench, text):
+    """Of what the next run prints each client and its end are told, and each line that was refused Backlog."""
+    if text:
+        raise not_understood()
+    bench.ends_alone = True
+
+
 def tell_last(bench, text):
     """Of what the next run prints only so many lines are told."""
     bench.last = number(text)
@@ -122,8 +138,8 @@ def tell_last(bench, text):
 def write_script(bench, name):
     """Writes the script to a file."""
     with open(bench.path(name), 'w', encoding='utf-8') as written:
-        written.write(bench.script)
-    bench.script = ''
+        written.writelines(f'{line}\n' for line in bench.script)
+    bench.script = []
 
 
 def set_size(bench, text):
@@ -161,13 +177,13 @@ def remove(bench, name):
     os.remove(bench.path(name))
 
 
-QUESTIONS = {'boost': run_program, 'beside': run_beside, 'last': tell_last, 'file': write_script, 'size': set_size, 'bytes': tell_bytes,
-             'write_file': write_bytes, 'is_there': tell_whether, 'remove': remove}
+QUESTIONS = {'boost': run_program, 'beside': run_beside, 'last': tell_last, 'ends': tell_ends, 'file': write_script, 'size': set_size,
+             'bytes': tell_bytes, 'write_file': write_bytes, 'is_there': tell_whether, 'remove': remove}
 
 
-def play_file(program, name):
+def play_file(program, path):
     """Plays the cases of a file. The bench behind them."""
-    with open(os.path.join(DATA, name), encoding='utf-8') as cases:
+    with open(path, encoding='utf-8') as cases:
         lines = cases.read().splitlines()
     with tempfile.TemporaryDirectory() as folder:
         bench = Bench(program, folder)
@@ -175,7 +191,7 @@ def play_file(program, name):
             try:
                 bench.play(line)
             except (OSError, ValueError, subprocess.SubprocessError) as error:
-                sys.exit(f'program_cases: {name}: line {count}: {error}')
+                sys.exit(f'program_cases: {os.path.basename(path)}: line {count}: {error}')
         bench.told += [f'left {left}' for left in sorted(os.listdir(folder))]
         return bench
 
@@ -188,13 +204,14 @@ def the_program():
 
 
 def main():
-    program = the_program()
-    benches = [play_file(program, name) for name in sorted(os.listdir(DATA)) if name != WANTED]
+    program, data = the_program(), sys.argv[2] if len(sys.argv) > 2 else DATA
+    folder = os.path.join(TOP, data)
+    benches = [play_file(program, os.path.join(folder, name)) for name in sorted(os.listdir(folder)) if name != WANTED]
     told = [line for bench in benches for line in bench.told]
-    with open(os.path.join(DATA, WANTED), encoding='utf-8') as lines:
+    with open(os.path.join(folder, WANTED), encoding='utf-8') as lines:
         wanted = lines.read().splitlines()
     if told != wanted:
-        print('\n'.join(difflib.unified_diff(wanted, told, f'tools/data/program_cases/{WANTED}', program, lineterm='')))
+        print('\n'.join(difflib.unified_diff(wanted, told, os.path.join(data, WANTED), program, lineterm='')))
         return 1
     print(f'{sum(bench.cases for bench in benches)} cases, {sum(bench.runs for bench in benches)} runs of the program, all as written')
     return 0

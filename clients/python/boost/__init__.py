@@ -295,11 +295,15 @@ class Store:
         return patiently(attempt, seconds)
 
     def _do(self, line: str, keep: bool, timeout: Optional[float], more: float = 0.0) -> List[Reply]:
-        with self._client(timeout) as connection:
-            answer = connection.ask([line], self._seconds(timeout) + more)[0]
+        seconds = self._seconds(timeout)
+        connection = self._pool.take(seconds)
+        try:
+            answer = connection.ask([line], seconds + more)[0]
             if answer.startswith(('refused ', 'error ')):
                 reply_of(answer, line)
             self._note(connection, keep)
+        finally:
+            self._pool.give_back(connection)
         return [reply_of(part, line) for part in answer.split('; ')][:-1]
 
     def _do_in_lines(self, parts: List[str], keep: bool, timeout: Optional[float]) -> List[Reply]:
@@ -397,14 +401,16 @@ def lines_of(parts: Sequence[str]) -> List[str]:
 def patiently(attempt: Callable[[], T], patience: float) -> T:
     """What the attempt gives. While it raises `Busy` it is made again, for so many seconds, and then `Busy` is raised."""
     end = time.monotonic() + patience
-    for pause in pauses():
+    pausing: Optional[Iterator[float]] = None
+    while True:
         try:
             return attempt()
         except Busy:
+            pausing = pausing or pauses()
+            pause = next(pausing)
             if time.monotonic() + pause > end:
                 raise
-            time.sleep(pause)
-    raise AssertionError
+        time.sleep(pause)
 
 
 def pauses() -> Iterator[float]:

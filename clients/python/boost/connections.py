@@ -253,15 +253,19 @@ class Stream(Connection):
 
     def send_lines(self, lines: Sequence[bytes], timeout: Optional[float]) -> None:
         for batch in batches(lines):
-            for pause in self.slices(timeout):
-                try:
-                    batch = batch[os.write(self.to, batch):]
-                except BlockingIOError:
-                    self.wait_for_room(pause)
-                except OSError as error:
-                    raise Gone('the server went away') from error
-                if not batch:
-                    break
+            rest, pauses = self.write(batch), self.slices(timeout)
+            while rest:
+                self.wait_for_room(next(pauses))
+                rest = self.write(rest)
+
+    def write(self, data: bytes) -> bytes:
+        """Writes what there is room for, and gives the rest."""
+        try:
+            return data[os.write(self.to, data):]
+        except BlockingIOError:
+            return data
+        except OSError as error:
+            raise Gone('the server went away') from error
 
     def wait_for_room(self, seconds: float) -> None:
         """Reads answers meanwhile, so that the server goes on with the lines."""
@@ -272,16 +276,22 @@ class Stream(Connection):
             self.fill(0)
 
     def receive(self, timeout: Optional[float] = None) -> str:
-        for pause in self.slices(timeout):
-            at = self.buffer.find(b'\n', self.scanned)
-            if at >= 0:
-                line = self.buffer[:at].decode(errors='replace')
-                del self.buffer[:at + 1]
-                self.scanned = 0
-                return line
+        line, pauses = self.next_line(), self.slices(timeout)
+        while line is None:
+            if self.fill(next(pauses)):
+                line = self.next_line()
+        return line
+
+    def next_line(self) -> Optional[str]:
+        """The next answer of those that were read, and None where none is whole."""
+        at = self.buffer.find(b'\n', self.scanned)
+        if at < 0:
             self.scanned = len(self.buffer)
-            self.fill(pause)
-        raise AssertionError
+            return None
+        line = self.buffer[:at].decode(errors='replace')
+        del self.buffer[:at + 1]
+        self.scanned = 0
+        return line
 
     def is_alive(self) -> bool:
         return self.is_of_use() and not self.buffer and not self.readable.poll(0)
@@ -305,11 +315,7 @@ class Pipes(Stream):
     def meet(self, seconds: float) -> None:
         try:
             apart(self.open_fifos)
-            self.say_hello(min(seconds, self.patience))
-            for file in self.open[:2]:
-                file.close()
-            with contextlib.suppress(OSError):     # by which the server sees, while this one waits, that it is there
-                fcntl.flock(self.answers, fcntl.LOCK_EX | fcntl.LOCK_NB)
+            self.greet(min(seconds, self.patience))
         except OSError as error:
             why = 'nobody reads its door' if error.errno == errno.ENXIO else error
             raise Gone('no server can be reached at %s: %s' % (self.folder, why)) from error
@@ -342,8 +348,9 @@ class Pipes(Stream):
                 os.fchmod(number, 0o660)
         return number
 
-    def open_both(self, to: int, answers: int) -> None:
+    def open_both(self, *held: int) -> None:
         """Opens each for its way. The others are held until the hello has come: a FIFO that no writer ever had reads as ended."""
+        to, answers = held
         self.to = self.take('/proc/self/fd/%d' % to, os.O_WRONLY)
         self.read_from(self.take('/proc/self/fd/%d' % answers, os.O_RDONLY))
 
@@ -362,22 +369,30 @@ class Pipes(Stream):
         finally:
             os.close(door)
 
-    def say_hello(self, patience: float) -> None:
-        """Says hello at the door, and waits for the answer. The line feed before it ends what another left there of a line."""
-        hello = b'\nhello %s\n' % self.word.encode()
+    def greet(self, patience: float) -> None:
+        """Says hello, and once that is answered holds no side of the server's: each sees the other's end."""
+        self.hear_hello(max(1.0, self.knock(b'hello', patience)), self.folder)
+        for file in self.open[:2]:
+            file.close()
+        with contextlib.suppress(OSError):         # by which the server sees, while this one waits, that it is there
+            fcntl.flock(self.answers, fcntl.LOCK_EX | fcntl.LOCK_NB)
+
+    def knock(self, ask: bytes, patience: float) -> float:
+        """Asks for this at the door by its word, and waits until an answer comes. The line feed before it ends what another left there
+        of a line. Gives how much is left of the patience."""
+        line = b'\n%s %s\n' % (ask, self.word.encode())
         end = time.monotonic() + patience
         while True:
             with contextlib.suppress(BlockingIOError):              # the door is full
-                apart(lambda: self.ask_door(hello))                 # later nothing: has the server died?
-                hello = b''
+                apart(lambda: self.ask_door(line))                  # later nothing: has the server died?
+                line = b''
             left = end - time.monotonic()
-            if self.fill(max(0.0, min(0.05 if hello else SLICE, left))):
-                break
+            if self.fill(max(0.0, min(0.05 if line else SLICE, left))):
+                return left
             if self.over:
                 raise Closed(self.over)
             if left <= 0:
                 raise NotServed('the server at %s did not serve this client within %g seconds' % (self.folder, patience))
-        self.hear_hello(max(1.0, left), self.folder)
 
 
 def path_of_gate(place: Path) -> Optional[str]:

@@ -1,5 +1,4 @@
 """Lines of the protocol: what is asked as text, and answers as values."""
-import itertools
 import operator
 import re
 from types import MappingProxyType
@@ -33,8 +32,10 @@ class Collection(NamedTuple):
 class Status(NamedTuple):
     """How a store stands, in the words of docs/LISTEN.md; the collections in the order of making. `failed` says that keeping has
     failed, `full` how full the store is, in hundredths, and `writing_since` the second since 1970 at which the write or sync of the
-    disk began that goes on, 0 where none does. `commits`, `aborts`, `blocks` and `checkpoints` count from the start of the server on, and
-    so does `busy`, calls that were refused Busy by the kind of the collection; `sleeping` clients wait for work."""
+    disk began that goes on, 0 where none does. `commits`, `aborts`, `blocks`, `checkpoints`, `syncs` and `written` bytes count from the
+    start of the server on, and so does `busy`, calls that were refused Busy by the kind of the collection; `sleeping` clients wait for
+    work, and `clients` are served at the door. `longest_write` is what the longest write or sync of the disk took, and `last_checkpoint` the last checkpoint, in
+    microseconds."""
     format: int
     area: int
     in_use: int
@@ -54,6 +55,11 @@ class Status(NamedTuple):
     checkpoints: int = 0
     sleeping: int = 0
     busy: Mapping[str, int] = MappingProxyType({})
+    clients: int = 0
+    syncs: int = 0
+    written: int = 0
+    longest_write: int = 0
+    last_checkpoint: int = 0
 
 
 PASSING = {'Busy', 'TooManyLive'}
@@ -68,6 +74,8 @@ def reply_of(answer: str, line: str = '') -> Reply:
     """An answer to a line as a value: numbers, `bytes` for a value, a pair for an item, a key and `bytes` for an entry, a `Status`,
     None for `nothing` and `done`, and of a `do` a list, with its place at the end. Raises what an answer refuses, and `Error`
     where it is none that this client knows."""
+    if answer in WORDS:
+        return WORDS[answer]
     word, _, rest = answer.partition(' ')
     if word == 'refused':
         raise refused_by(answer)
@@ -85,8 +93,6 @@ def refused_by(answer: str) -> Refused:
 
 
 def value_of(answer: str, word: str, rest: str) -> Reply:
-    if answer in WORDS:
-        return WORDS[answer]
     if word in ('format', 'failed;'):
         return status_of(answer)
     if '; ' in answer:
@@ -136,12 +142,12 @@ CONTROL = re.compile(rb'[\x00-\x1f\x7f]')
 def word_of(argument: Argument, is_signed: bool = False) -> str:
     """An argument as a word. ValueError for a text that is none and for a number that has more than 64 bits or a sign in vain;
     TypeError for what is no text, number or bytes."""
-    if isinstance(argument, (bytes, bytearray, memoryview)):
-        return bytes(argument).hex() or '-'
     if isinstance(argument, str):
         if not WORD.fullmatch(argument):
             raise ValueError('no word of a line: %r' % argument)
         return argument
+    if isinstance(argument, (bytes, bytearray, memoryview)):
+        return bytes(argument).hex() or '-'
     if isinstance(argument, bool):
         raise TypeError('a truth value is no word of a line')
     number = operator.index(argument)
@@ -153,8 +159,11 @@ def word_of(argument: Argument, is_signed: bool = False) -> str:
 
 def words_of(*arguments: Argument) -> str:
     """Arguments as words, with a space between two. The number of a `bump` may be below nothing."""
-    before = itertools.chain([None], arguments)
-    return ' '.join(word_of(argument, isinstance(verb, str) and verb == 'bump') for verb, argument in zip(before, arguments))
+    words, is_signed = [], False
+    for argument in arguments:
+        words.append(word_of(argument, is_signed))
+        is_signed = words[-1] == 'bump' and isinstance(argument, str)
+    return ' '.join(words)
 
 
 def seconds_of(seconds: float) -> str:

@@ -2,21 +2,22 @@
 
 It serves http://127.0.0.1:7300/, or another port, to this machine alone, but to each of its users: how full the store is, what is open and
 waits, the names of the collections and how many items they hold, and how that went in the last hour; and /metrics, in the text format
-of Prometheus. It only asks `status`, every 5 seconds, and changes nothing. For that it is **one of the 64 clients** of the server as
-long as it runs. Where the server is away, it says so, and looks again. It wants nothing but Python.
+of Prometheus. It only asks how the store stands, every 5 seconds, as boost.status does: it is none of the 64 clients of the server, and
+changes nothing. Where the server is away, it says so, and looks again. It wants nothing but Python.
 """
 import argparse
 import html
 import http.server
 import itertools
-import re
 import sys
 import threading
 import time
 from collections import deque
-from typing import Any, Deque, Dict, Iterable, List, NamedTuple, Optional, Sequence, Tuple, Union
+from typing import Any, Deque, Dict, Iterable, List, NamedTuple, Optional, Sequence, Tuple
 
-import boost
+from . import status
+from .errors import Error
+from .status import CLIENTS, RECORDS, Number, State, number_of
 
 PORT = 7300
 EVERY = 5.0
@@ -24,55 +25,15 @@ EVERY = 5.0
 HOUR, LEAST = 3600.0, 60.0
 # After how many seconds in which records wait and none is kept the device is said to stand still.
 STILL = 10.0
-CLIENTS, RECORDS = 64, 16384
 # How many columns a plot has, and how many rows.
 WIDTH, HEIGHT = 560, 100
 AWAY = 'no answer yet'
 
-Number = Union[int, float]
 # What is plotted: pairs of a second and a value, None where there was none.
 Points = Sequence[Tuple[float, Optional[float]]]
 
 
 # ---- what a server tells
-
-
-class State(NamedTuple):
-    """An answer to `status`: its numbers by name, its collections as their words, its other parts as they stand, and how many calls
-    were refused Busy, by the kind of the collection."""
-    numbers: Dict[str, Number]
-    collections: List[List[str]]
-    others: List[str]
-    busy: Dict[str, Number]
-
-
-def number_of(text: str) -> Optional[Number]:
-    """A text as a number, or None where it is none."""
-    for kind in (int, float):
-        try:
-            return kind(text)
-        except ValueError:
-            pass
-    return None
-
-
-def state_of(answer: str) -> State:
-    """Parses any answer to `status`, also one with parts that this program does not know."""
-    state = State({}, [], [], {})
-    for part in answer.split('; '):
-        name, *words = part.split()
-        number = number_of(words[0]) if len(words) == 1 else None
-        if name == 'collection' and len(words) >= 3:
-            state.collections.append(words)
-        elif name == 'busy' and len(words) == 2:
-            state.busy[words[0]] = number_of(words[1]) or 0
-        elif number is not None:
-            state.numbers[name] = number
-        elif part == 'failed':
-            state.numbers[name] = 1
-        else:
-            state.others.append(part)
-    return state
 
 
 class Sample(NamedTuple):
@@ -86,7 +47,7 @@ class Watch:
 
     def __init__(self, folder: str, every: float = EVERY) -> None:
         self.folder, self.every = folder, every
-        self.store = boost.join(folder, patience=every + 1, timeout=every + 1)
+        self.asker = status.Asker(folder, every + 1)
         self.samples: Deque[Sample] = deque()
         self.state: Optional[State] = None
         self.why, self.since = AWAY, time.time()
@@ -96,12 +57,8 @@ class Watch:
         """Asks once, and notes the answer, or why none came."""
         why, state = '', None
         try:
-            answer = self.store.session().lines(['status'])[0]
-            if answer.startswith(('refused ', 'error ')):
-                why = answer
-            else:
-                state = state_of(answer)
-        except boost.Error as error:
+            state = self.asker.ask()
+        except Error as error:
             why = str(error)
         with self.lock:
             if bool(why) != bool(self.why):
@@ -275,58 +232,21 @@ def page_of(seen: Seen, every: float = EVERY) -> str:
                 % (' class="old"' if seen.why else '', room_of(seen.state), collections_of(seen.state)))
     return ('<!DOCTYPE html>\n<html lang="en"><head><meta charset="utf-8"><meta http-equiv="refresh" content="%d">'
             '<title>boost: %s</title><style>%s</style></head><body>\n<h1>boost at %s</h1>\n%s<div class="plots">\n%s</div>\n%s'
-            '<footer>Asked every %g s, as one of the 64 clients of the server. <a href="/metrics">/metrics</a></footer></body></html>\n'
+            '<footer>Asked every %g s. <a href="/metrics">/metrics</a></footer></body></html>\n'
             % (max(1, round(every)), folder, STYLE, folder, told, plots_of(seen), body, every))
 
 
 # ---- metrics
 
 
-# The name, the kind and the meaning of each number of which more is known than its name.
-METRICS = {
-    'area': ('boost_area_bytes', 'gauge', 'The size of each of the two areas.'),
-    'used': ('boost_used_bytes', 'gauge', 'What is in use of the area: its image and its journal.'),
-    'checkpoint': ('boost_checkpoint_bytes', 'gauge', 'What the next image takes at most, with the undoing of what is live.'),
-    'full': ('boost_full_hundredths', 'gauge', 'What the last image took, in hundredths of what calls may fill.'),
-    'live': ('boost_live_transactions', 'gauge', 'Transactions that have not ended, of 64.'),
-    'waiting': ('boost_waiting_records', 'gauge', 'Records that wait for the disk, of 16384.'),
-    'next': ('boost_transactions_total', 'counter', 'The number of the next transaction.'),
-    'commits': ('boost_commits_total', 'counter', 'Transactions that committed since the server began, and collections that were made.'),
-    'aborts': ('boost_aborts_total', 'counter', 'Transactions that were taken back since the server began.'),
-    'blocks': ('boost_blocks_total', 'counter', 'Blocks that were handed to the disk, with two writes and two syncs each.'),
-    'checkpoints': ('boost_checkpoints_total', 'counter', 'Checkpoints since the server began.'),
-    'sleeping': ('boost_sleeping_clients', 'gauge', 'Clients that wait for work.'),
-    'wear': ('boost_steps_total', 'counter', 'Steps of the life of the store.'),
-}
-
-
-def metric(name: str, kind: str, meaning: str, lines: Iterable[str]) -> str:
-    return '# HELP %s %s\n# TYPE %s %s\n%s' % (name, meaning, name, kind, ''.join('%s\n' % line for line in lines))
-
-
-def label(text: str) -> str:
-    return '"%s"' % text.replace('\\', '\\\\').replace('"', '\\"')
-
-
 def metrics_of(seen: Seen) -> str:
     """The last answer in the text format of Prometheus, and of a server that is away nothing but that."""
-    told = metric('boost_up', 'gauge', 'Whether the server answers.', ['boost_up %d' % (not seen.why)])
     if seen.why or not seen.state:
-        return told
-    for part, number in seen.state.numbers.items():
-        name = 'boost_' + re.sub(r'\W', '_', part)
-        name, kind, meaning = METRICS.get(part, (name, 'gauge', 'The part %s of status.' % part))
-        told += metric(name, kind, meaning, ['%s %s' % (name, number)])
+        return status.up_metric(False)
     still = still_since(seen.samples)
-    told += metric('boost_still_seconds', 'gauge', 'For how long records have waited and none was kept.',
-                   ['boost_still_seconds %.1f' % (0 if still is None else seen.samples[-1].second - still)])
-    if 'failed' not in seen.state.numbers:
-        told += metric('boost_failed', 'gauge', 'The part failed of status.', ['boost_failed 0'])
-    busy = ['boost_busy_total{kind=%s} %s' % (label(kind), count) for kind, count in seen.state.busy.items()]
-    told += metric('boost_busy_total', 'counter', 'Calls that were refused Busy.', busy) if busy else ''
-    items = ['boost_collection_items{kind=%s,name=%s} %s' % (label(kind), label(name), count)
-             for kind, name, count, *_ in seen.state.collections if number_of(count) is not None]
-    return told + (metric('boost_collection_items', 'gauge', 'How many items a collection holds.', items) if items else '')
+    return (status.up_metric(True) + status.metrics_of(seen.state)
+            + status.metric('boost_still_seconds', 'gauge', 'For how long records have waited and none was kept.',
+                            ['boost_still_seconds %.1f' % (0 if still is None else seen.samples[-1].second - still)]))
 
 
 # ---- the server of the page
@@ -368,7 +288,7 @@ def serving(watch: Watch, port: int) -> http.server.ThreadingHTTPServer:
 
 
 def main() -> None:
-    words = argparse.ArgumentParser(prog='python3 -m boost.page', description='One page to look at, of the server of a folder. It is one '
+    words = argparse.ArgumentParser(prog='python3 -m boost.page', description='One page to look at, of the server of a folder. It is none '
                                     'of the 64 clients of the server, and changes nothing.')
     words.add_argument('folder', metavar='FOLDER', help='the folder of `boost listen DISK FOLDER`')
     words.add_argument('--port', type=int, default=PORT, metavar='N', help='the port at 127.0.0.1; 7300 without it, and 0 for a free one')

@@ -106,7 +106,8 @@ class Pool:
                 self.idle.append(connection)
                 if len(self.idle) > self.at_rest and not self.line:
                     surplus = self.idle.popleft()
-            self.call_next()
+            if self.line:                          # who joins it later finds the client that rests
+                self.call_next()
         if surplus:
             self.settle(surplus)
 

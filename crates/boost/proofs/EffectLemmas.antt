@@ -1,5 +1,6 @@
 -- What a command leaves on a disk.
-use Rattle.std.proofs.Common.{◌≡◌, ◌⊎◌, inl, inr, ℕ, List, [], Result, Ok, Err, OnOk, replicate}
+use Rattle.std.proofs.Common.{◌≡◌, ◌⊎◌, ◌≤◌, inl, inr, ℕ, List, [], Result, Ok, Err, OnOk}
+use Rattle.std.proofs.Common.{replicate}
 use Rattle.std.proofs.Common.{refl, true, false}
 use Rattle.std.proofs.Common.{sym, subst, take, length, arith}
 use Rattle.std.proofs.lemmas.List.{take_all}
@@ -8,7 +9,7 @@ use Rattle.boost.specs.declared.arguments.Task.{Task}
 use Rattle.calls.specs.Contents.{Collection}
 use Rattle.disk_model.specs.Disk.{ReadsOnly, IsAtRest, LeavesOnly, Rises}
 use Rattle.disk_model.specs.declared.disk.Disk.{Ghosts}
-use Rattle.disk_model.proofs.Walk.{started, weaker, and_then}
+use Rattle.disk_model.proofs.Walk.{started, weaker}
 use Rattle.replay.specs.Journals.{StandsFor}
 use Rattle.replay.specs.Reading.{IsSound}
 use Rattle.calls.specs.Formats.{number_of}
@@ -19,12 +20,10 @@ use Rattle.recovery.specs.Formatting.{IsFormatting}
 use Rattle.recovery.specs.Openings.{KeepsContent, IsOpenRefusal}
 use Rattle.recovery.specs.Refusals.{IsOpenedAtMost, OpeningLeaves, RefusalLeaves}
 use Rattle.world.specs.Moves.{Whole}
-use Rattle.world.specs.Pasts.{Past}
 use Rattle.checkpoint.specs.Crash.{Yields}
 use Rattle.world.specs.Pasts.{committed_in}
-use Rattle.world.proofs.PastLemmas.{yields_on}
-use Rattle.world.proofs.PlayLemmas.{moments_of, answered_of}
-use Rattle.talks.specs.Plays as plays
+use Rattle.world.proofs.PlayLemmas.{honest_of}
+use Rattle.talks.specs.Plays.{IsPlayed}
 use Rattle.talks.specs.Requests.{nobody, CarriesOut, PlaysLines}
 use Rattle.script.specs.Scripts.{IsScriptOf, IsWhy}
 use Rattle.script.specs.declared.line.ScriptError.{ScriptError}
@@ -32,9 +31,9 @@ use Rattle.boost.specs.declared.commands.failure.Failure.{Failure}
 use Rattle.boost.specs.Failures.{failure_of}
 use Rattle.boost.specs.Commands.{IsUnderstood, IsPlay, IsOfStore, IsWhyUnplayed, IsWhyUndone}
 use Rattle.boost.specs.Commands.{status_of}
-use Rattle.boost.specs.Effects.{KeepsPlaying, StartsFrom, ArePlayedOn, IsPlayedOn, IsPlayedAnew}
-use Rattle.boost.specs.Effects.{Leaves, IsLeftByPlay, IsFormatted, IsEmptyAs, FormatLeaves}
-use Rattle.boost.specs.Effects.{IsBroughtUp}
+use Rattle.boost.specs.Effects.{StartsFrom, ArePlayedOn, IsPlayedOn, IsPlayedAnew, Leaves}
+use Rattle.boost.specs.Effects.{IsFormatted, IsEmptyAs, FormatLeaves, IsBroughtUp}
+use Rattle.boost.proofs.PlayedLemmas.{was_played}
 use Rattle.talks.specs.declared.client.Client.{Client}
 use Rattle.script.specs.declared.line.Line.{Line}
 
@@ -83,18 +82,6 @@ module _ {D : Type 0} (seen : D → List ℕ) (may_leave : D → List ℕ → Ty
     any_moment = started moment left_since old (may_leave old) only_now;
   }
 
-  -- no step was taken
-  pub nothing_played : (new : D) → KeepsContent seen may_leave moment left_since old new →
-      KeepsPlaying seen may_leave moment left_since old new
-  nothing_played new keeps content rest sound stands =
-      record {
-        steps = [];
-        own = tt;
-        any_moment = weaker moment left_since old new _
-            (Yields content (committed_in []) []) (keeps content rest sound stands)
-            (yields_none content);
-      }
-
 module _ {D : Type 0} (g : Ghosts D) (old : D) where
   -- an opening that did not touch its disk
   pub unopened : ((c : List ℕ) → g.left_since old (g.moment old) c → g.may_leave old c) →
@@ -103,15 +90,6 @@ module _ {D : Type 0} (g : Ghosts D) (old : D) where
     ends = inl (inl (untouched_reads g.seen g.may_leave g.moment g.left_since old only_now));
     any_moment = λ honest.
         untouched_keeps g.seen g.may_leave g.moment g.left_since old only_now;
-  }
-
-  -- a play of which no line was carried out
-  pub unplayed_leaves : (script : List ℕ) (new : D) → g.is_honest new → OpeningLeaves g old new →
-      IsLeftByPlay g script old new
-  unplayed_leaves script new honest leaves = record {
-    in_part = inl leaves;
-    any_moment = nothing_played g.seen g.may_leave g.moment g.left_since old new
-        (leaves.any_moment honest);
   }
 
   -- a format that did not touch its disk
@@ -130,7 +108,7 @@ module _ {D : Type 0} (g : Ghosts D) (old : D) where
   untouched_leaves only_now (Task.Format disk area version reserve group force) script =
       unformatted version area only_now
   untouched_leaves only_now (Task.Play disk name) script = λ honest.
-      unplayed_leaves script old honest (unopened only_now)
+      inl (unopened only_now)
   untouched_leaves only_now (Task.Show disk false) script = unopened only_now
   untouched_leaves only_now (Task.Show disk true) script =
       untouched_reads g.seen g.may_leave g.moment g.left_since old only_now
@@ -211,73 +189,57 @@ module _ {D : Type 0} (g : Ghosts D) (old : D) where
   refused_leaves new no_head is_damaged no_room (Refusal.Damaged place) why left = inl (inl left)
   refused_leaves new no_head is_damaged no_room e why left = absurd why
 
-  -- a store was opened, and then steps were taken
-  pub steps_played : (w v : Whole D) →
-      KeepsContent g.seen g.may_leave g.moment g.left_since old w.keeper.disk
-      → StartsFrom g old w → plays.IsPlayed g w v →
-      ((d : D) (c : List ℕ) → g.left_since d (g.moment d) c → g.may_leave d c)
-      → KeepsPlaying g.seen g.may_leave g.moment g.left_since old v.keeper.disk
-  steps_played w v keeps begins played only_now content rest sound stands =
-      let steps : Past = played.0 in
-      let P : List ℕ → Type 0 = Yields content (committed_in steps) [] in
-      record {
-        steps = steps;
-        own = answered_of g steps w v played.1;
-        any_moment = and_then g.moment g.left_since old w.keeper.disk v.keeper.disk P P
-            (weaker g.moment g.left_since old w.keeper.disk _ P (keeps content rest sound stands)
-            (λ c fine. yields_on content [] steps [] c (yields_none content c fine)))
-            (moments_of g only_now content [] steps w v played.1 (begins.past content stands rest))
-            (λ c y. y);
-      }
+  -- a store was opened, and then lines were carried out
+  module _ (only_now : (d : D) (c : List ℕ) → g.left_since d (g.moment d) c → g.may_leave d c)
+      (counts_now : (d : D) (t : ℕ) (c : List ℕ) → t ≤ g.moment d → g.may_leave d c →
+      g.left_since d t c) (w v : Whole D) (ks ls : List Client) (new : ks ≡ replicate 64 nobody)
+      (keeps : g.is_honest w.keeper.disk →
+      KeepsContent g.seen g.may_leave g.moment g.left_since old w.keeper.disk)
+      (starts : g.is_honest w.keeper.disk → StartsFrom g old w) (played : IsPlayed g w v) where
+    are_played : (lines : List Line) → CarriesOut g ks w lines ls v → g.is_honest v.keeper.disk →
+        ArePlayedOn g lines old v.keeper.disk
+    are_played lines carried honest =
+        let before = honest_of g played.0 w v played.1 honest in
+        let anew = subst (λ k. CarriesOut g k w lines ls v) new carried in record {
+          opened = w;
+          starts = starts before;
+          keeps = keeps before;
+          clients = ls;
+          world = v;
+          carried = anew;
+          disk = refl;
+          played = λ content rest sound stands.
+              was_played g only_now counts_now content w v
+              ((starts before).past content stands rest) old lines ls anew
+              (weaker g.moment g.left_since old w.keeper.disk _
+              (Yields content (committed_in []) []) (keeps before content rest sound stands)
+              (yields_none content));
+        }
 
-  -- a store was opened, and then all lines were carried out
-  pub lines_played : {E F : Type 0} (w v : Whole D) (ks ls : List Client) (lines : List Line)
-      (r : Result (Unit {0}) E) (s : Result (Unit {0}) F) (f : F) → ks ≡ replicate 64 nobody →
-      (g.is_honest v.keeper.disk → StartsFrom g old w)
-      → PlaysLines g ks w lines r ls v → MatchResult r (λ done. s ≡ Ok tt) (λ e. s ≡ Err f) →
-      OnOk s (g.is_honest v.keeper.disk → ArePlayedOn g lines old v.keeper.disk)
-  lines_played w v ks ls lines (Ok done) s f new starts carried response =
-      subst (λ q. OnOk q (g.is_honest v.keeper.disk → ArePlayedOn g lines old v.keeper.disk))
-      (sym response) (λ honest. record {
-        opened = w;
-        starts = starts honest;
-        clients = ls;
-        world = v;
-        carried = subst (λ k. CarriesOut g k w lines ls v) new carried;
-        disk = refl;
-      })
-  lines_played w v ks ls lines (Err e) s f new starts carried response =
-      subst (λ q. OnOk q (g.is_honest v.keeper.disk → ArePlayedOn g lines old v.keeper.disk))
-      (sym response) tt
+    -- all lines were
+    pub lines_played : {E F : Type 0} (lines : List Line) (r : Result (Unit {0}) E)
+        (s : Result (Unit {0}) F) (f : F) → PlaysLines g ks w lines r ls v →
+        MatchResult r (λ done. s ≡ Ok tt) (λ e. s ≡ Err f) →
+        OnOk s (g.is_honest v.keeper.disk → ArePlayedOn g lines old v.keeper.disk)
+    lines_played lines (Ok done) s f carried response =
+        subst (λ q. OnOk q (g.is_honest v.keeper.disk → ArePlayedOn g lines old v.keeper.disk))
+        (sym response) (are_played lines carried)
+    lines_played lines (Err e) s f carried response =
+        subst (λ q. OnOk q (g.is_honest v.keeper.disk → ArePlayedOn g lines old v.keeper.disk))
+        (sym response) tt
 
--- so many of them were
-pub lines_in_part : {D E : Type 0} (g : Ghosts D) (old : D) (w v : Whole D) (ks ls : List Client)
-    (lines : List Line) (r : Result (Unit {0}) E) → ks ≡ replicate 64 nobody → StartsFrom g old w →
-    PlaysLines g ks w lines r ls v → (n : ℕ) × ArePlayedOn g (take n lines) old v.keeper.disk
-lines_in_part g old w v ks ls lines (Ok done) new starts carried = (
-  length lines,
-  record {
-    opened = w;
-    starts = starts;
-    clients = ls;
-    world = v;
-    carried = subst (λ l. CarriesOut g (replicate 64 nobody) w l ls v)
-        (sym (take_all (length lines) lines (omega arith)))
-        (subst (λ k. CarriesOut g k w lines ls v) new carried);
-    disk = refl;
-  },
-)
-lines_in_part g old w v ks ls lines (Err e) new starts carried = (
-  carried.0,
-  record {
-    opened = w;
-    starts = starts;
-    clients = ls;
-    world = v;
-    carried = subst (λ k. CarriesOut g k w (take carried.0 lines) ls v) new carried.1;
-    disk = refl;
-  },
-)
+    -- so many of them were
+    pub lines_in_part : {E : Type 0} (lines : List Line) (r : Result (Unit {0}) E) →
+        PlaysLines g ks w lines r ls v → g.is_honest v.keeper.disk →
+        (n : ℕ) × ArePlayedOn g (take n lines) old v.keeper.disk
+    lines_in_part lines (Ok done) carried honest = (
+      length lines,
+      are_played (take (length lines) lines)
+          (subst (λ l. CarriesOut g ks w l ls v)
+          (sym (take_all (length lines) lines (omega (arith)))) carried) honest,
+    )
+    lines_in_part lines (Err e) carried honest =
+        (carried.0, are_played (take carried.0 lines) carried.1 honest)
 
 -- they were those of a script, which was understood
 pub script_played : {D E : Type 0} (g : Ghosts D) (old new : D) (lines : List Line)

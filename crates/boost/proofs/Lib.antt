@@ -1,5 +1,6 @@
 pub mod OpenLemmas
+pub mod PlayedLemmas
 pub mod EffectLemmas
-pub mod ScriptClients
 pub mod ArgumentCommands
 pub mod ArgumentNumbers
+pub mod CopyEdits

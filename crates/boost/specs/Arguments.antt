@@ -1,14 +1,16 @@
 -- The program's command line, and what it asks for.
 use Rattle.std.specs.Prelude.{◌≡◌, ◌↔◌, ℕ, pos, ◌-◌, ◌^◌, List, Option, Some, None, Ok, codes, true}
-use Rattle.std.specs.Prelude.{string_bytes}
+use Rattle.std.specs.Prelude.{[], ◌∷◌, ◌++◌, map, unwrap_or, string_bytes}
 use Rattle.std.specs.Option.{option_map}
 use Rattle.std.specs.Prelude.{IsSomeAnd, IsTrue, MatchOption}
 use Rattle.std.specs.Str.Parse.{ParsesUnsigned}
 use Rattle.std.specs.declared.num.ParseIntError.{ParseIntError}
-use Rattle.clap.specs.Words.{App, Row, Rule, Text, first_of, new_app, new_rule, subcommand_of}
+use Rattle.clap.specs.Words.{App, Row, Rule, Text, all_of, first_of, new_app, new_rule}
+use Rattle.clap.specs.Words.{subcommand_of}
 use Rattle.clap.specs.Words.{with_rule, with_subcommand}
-use Rattle.clap.specs.declared.builder.ArgAction.TheVariants.{Set, SetTrue}
+use Rattle.clap.specs.declared.builder.ArgAction.TheVariants.{Append, Set, SetTrue}
 use Rattle.clap.specs.declared.builder.ValueParser.TheVariants as parsers
+use Rattle.recovery.specs.declared.editing.Edit.{Edit}
 use Rattle.boost.specs.declared.arguments.Invocation.{Invocation}
 use Rattle.boost.specs.declared.arguments.Task.{Task}
 use Rattle.boost.specs.Sizes.{IsSizeOf}
@@ -33,6 +35,22 @@ copy_area_rule = record (new_rule (codes "area")) {
   long = Some (codes "area");
   value_names = 1;
   action = Some Set;
+}
+
+-- a collection that a copy leaves out, as often as it is written
+abbrev pub without_rule : Rule
+without_rule = record (new_rule (codes "without")) {
+  long = Some (codes "without");
+  value_names = 1;
+  action = Some Append;
+}
+
+-- two names, as often as they are written
+abbrev pub rename_rule : Rule
+rename_rule = record (new_rule (codes "rename")) {
+  long = Some (codes "rename");
+  value_names = 2;
+  action = Some Append;
 }
 
 -- a flag, which is written with its name
@@ -89,7 +107,7 @@ serve_app = with_rule (script_app (codes "serve")) (flag_rule (codes "why"))
 abbrev pub listen_app : App
 listen_app =
     let timed = with_rule (with_rule (disk_app (codes "listen")) folder_rule) idle_rule in
-    with_rule timed (flag_rule (codes "shell"))
+    with_rule (with_rule timed (flag_rule (codes "shell"))) (flag_rule (codes "log"))
 
 abbrev pub show_app : App
 show_app = flagged_app (codes "show") (codes "read-only")
@@ -104,7 +122,8 @@ abbrev pub copy_app : App
 copy_app =
     let files = with_rule (with_rule (new_app (codes "copy")) (path_rule (codes "OLD")))
     (path_rule (codes "NEW")) in
-    with_rule (with_rule files copy_area_rule) (flag_rule (codes "group"))
+    let kept = with_rule (with_rule files copy_area_rule) (flag_rule (codes "group")) in
+    with_rule (with_rule kept without_rule) rename_rule
 
 abbrev pub upgrade_app : App
 upgrade_app = disk_app (codes "upgrade")
@@ -161,6 +180,20 @@ abbrev pub IsArea : Option ℕ → List Row → Type 0
 IsArea (Some n) rows = IsSomeAnd (first_of (codes "area") rows) (IsSizeOf n)
 IsArea None rows = first_of (codes "area") rows ≡ None
 
+-- the values of an argument that may be written several times
+abbrev pub values_of : Text → List Row → List Text
+values_of id rows = unwrap_or (all_of id rows) []
+
+-- the first of each two is renamed to the second
+abbrev pub renames : List Text → List Edit
+renames (from ∷ to ∷ more) = Edit.Rename from to ∷ renames more
+renames less = []
+
+-- what is left out, and then what is renamed, each in the order of the command line
+abbrev pub edits_asked : List Row → List Edit
+edits_asked rows = map Edit.Without (values_of (codes "without") rows) ++
+    renames (values_of (codes "rename") rows)
+
 -- the number of a format stands there, or none does and the first one is asked for
 abbrev pub IsVersion : ℕ → List Row → Type 0
 IsVersion version rows = MatchOption (first_of (codes "format") rows) (version ≡ 1)
@@ -200,20 +233,22 @@ AsksTask Task.Demo found = found.0 ≡ codes "demo"
 
 abbrev pub Asks : Invocation → Text × List Row → Type 0
 Asks (Invocation.Run task) found = AsksTask task found
-Asks (Invocation.Copy old new area group) found = (found.0 ≡ codes "copy") ×
+Asks (Invocation.Copy old new area group edits) found = (found.0 ≡ codes "copy") ×
     IsPath (codes "OLD") (string_bytes old) found.1 ×
     IsPath (codes "NEW") (string_bytes new) found.1 ×
     IsArea area found.1 ×
-    (IsTrue group ↔ IsGiven (codes "group") found.1)
+    (IsTrue group ↔ IsGiven (codes "group") found.1) ×
+    (edits.items ≡ edits_asked found.1)
 Asks (Invocation.Lint script) found = (found.0 ≡ codes "lint") ×
     IsPath (codes "SCRIPT") (string_bytes script) found.1
 Asks (Invocation.Serve disk script why) found = (found.0 ≡ codes "serve") ×
     ArePaths (string_bytes disk) (string_bytes script) found.1 ×
     (IsTrue why ↔ IsGiven (codes "why") found.1)
-Asks (Invocation.Listen disk folder idle shell) found = (found.0 ≡ codes "listen") ×
+Asks (Invocation.Listen disk folder idle shell log) found = (found.0 ≡ codes "listen") ×
     IsPath (codes "DISK") (string_bytes disk) found.1 ×
     (first_of (codes "FOLDER") found.1 ≡ option_map string_bytes folder) ×
-    IsIdle idle found.1 × (IsTrue shell ↔ IsGiven (codes "shell") found.1)
+    IsIdle idle found.1 × (IsTrue shell ↔ IsGiven (codes "shell") found.1) ×
+    (IsTrue log ↔ IsGiven (codes "log") found.1)
 
 -- The words ask for this: clap finds the command in them, with its paths and number.
 abbrev pub IsAskedBy : Invocation → List Text → Type 0

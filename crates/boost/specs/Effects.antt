@@ -1,6 +1,7 @@
 -- What a command leaves on a disk, and what a stop at any moment of it might have left.
-use Rattle.std.specs.Prelude.{◌≡◌, ◌⊎◌, ℕ, List, [], length, replicate, take, Bool, true, false}
-use Rattle.std.specs.Prelude.{Err}
+use Rattle.std.specs.Prelude.{◌≡◌, ◌⊎◌, ℕ, ◌%◌, ◌≤◌, List, [], ◌∷◌, ◌++◌, length, replicate, take}
+use Rattle.std.specs.Prelude.{Bool, true, false, Some, Err, get_or}
+use mathlib.Core.List.{IsPrefix}
 use Rattle.boost.specs.declared.arguments.Task.{Task}
 use Rattle.boost.specs.Commands.{IsUnderstood}
 use Rattle.calls.specs.Contents.{Collection}
@@ -20,6 +21,8 @@ use Rattle.recovery.specs.Openings.{IsOpened, IsReport, IsDamagedAt, KeepsConten
 use Rattle.recovery.specs.Finding.{IsFound}
 use Rattle.recovery.specs.Loading.{HoldsImage}
 use Rattle.recovery.specs.Surveys.{IsSurvey}
+use Rattle.recovery.specs.declared.editing.Edit.{Edit}
+use Rattle.recovery.specs.Edits.{IsUneditable}
 use Rattle.recovery.specs.Copies.{IsCopyOf, IsTooLarge, IsCopyAnswer}
 use Rattle.recovery.specs.Refusals.{IsOpenedAtMost, OpeningLeaves}
 use Rattle.recovery.specs.Upgrades.{IsUpgraded}
@@ -27,31 +30,70 @@ use Rattle.replay.specs.Steps.{State}
 use Rattle.gate_block.specs.declared.area.Area.{Area}
 use Rattle.gate_block.specs.Area.{base_of, size_of}
 use Rattle.txn.specs.Books.{BookState}
-use Rattle.world.specs.Pasts.{Past, AreAnswered, committed_in}
+use Rattle.world.specs.Pasts.{Past, AreAnswered, committed_in, greatest_told}
 use Rattle.checkpoint.specs.Crash.{Yields}
+use Rattle.checkpoint.specs.declared.turn.Turn.{Turn}
 use Rattle.world.specs.Worlds.{HasPast}
 use Rattle.world.specs.Moves.{Whole}
 use Rattle.world.specs.OneStep.{parts}
-use Rattle.talks.specs.Requests.{nobody, CarriesOut}
-use Rattle.script.specs.Scripts.{IsScriptOf}
+use Rattle.talks.specs.Plays.{Plays}
+use Rattle.talks.specs.Requests.{nobody, Answers, CarriesOut}
 use Rattle.talks.specs.declared.client.Client.{Client}
+use Rattle.talks.specs.declared.texts.Response.{Response}
+use Rattle.script.specs.Scripts.{IsScriptOf}
+use Rattle.script.specs.declared.action.Action.{Action}
+use Rattle.script.specs.declared.action.Request.{Request}
 use Rattle.script.specs.declared.line.Line.{Line}
 
--- Steps were taken from the content. Whatever a stop at any moment since old might have left is
--- sound, and stands for a content that some beginning of what they committed gives, each
--- transaction run whole, one after another, with the replies that were got.
-pub record WasPlayed {D : Type 0} (moment : D → ℕ) (left_since : D → ℕ → List ℕ → Type 0)
-    (content : List Collection) (old new : D) : Type 0 where
+-- The answer of a line tells that all commits and makings up to the place are kept: that of a turn
+-- and of a checkpoint names the place, and `kept` tells it of the ticket of the client that asked.
+abbrev pub TellsKept : List Client → Action → Response → (place : ℕ) → Type 0
+TellsKept ks Action.Turn (Response.Turned (Turn.Kept n)) place = place ≡ n
+TellsKept ks Action.Checkpoint (Response.Flipped n) place = place ≡ n
+TellsKept ks (Action.Client n Request.Kept) Response.Kept place =
+    (get_or ks (n % 64) nobody).ticket ≡ Some place
+TellsKept ks action response place = ⊥
+
+-- A line of a play, with those before it and those after it: what it was answered, and the clients
+-- and the world before it and behind it. A beginning of the play's steps led to that world. What
+-- the answer tells to be kept is among what a stop leaves, at any moment from then on.
+pub record IsLineOf {D : Type 0} (g : Ghosts D) (content : List Collection) (opened : Whole D)
+    (first : List Line) (line : Line) (last : List Line) (steps : Past) (clients : List Client)
+    (world : Whole D) : Type 0 where
+  pub before : List Client
+  pub there : Whole D
+  pub carried : CarriesOut g (replicate 64 nobody) opened first before there
+  pub response : Response
+  pub behind : List Client
+  pub here : Whole D
+  pub answered : Answers g before there line.what response behind here
+  pub goes_on : CarriesOut g behind here last clients world
+  pub taken : Past
+  pub begins : IsPrefix taken steps
+  pub led : Plays g opened taken here
+  pub told : (place : ℕ) → TellsKept before line.what response place →
+      LeavesOnly g.moment g.left_since here.keeper.disk world.keeper.disk
+      (Yields content (committed_in steps) (take place (committed_in steps)))
+
+-- Lines were carried out from the content on, by steps that led from the opened world to this one.
+-- Whatever a stop at any moment since old might have left is sound, and stands for a content that
+-- some beginning of the transactions gives that the steps committed, each run whole, one after
+-- another, with the replies that were got. What a stop leaves now holds all that the mark tells,
+-- which is no less than what was told; and from each line on that told that something is kept, a
+-- stop leaves that.
+pub record WasPlayed {D : Type 0} (g : Ghosts D) (content : List Collection) (lines : List Line)
+    (old : D) (opened : Whole D) (clients : List Client) (world : Whole D) : Type 0 where
   pub steps : Past
   pub own : AreAnswered steps
-  pub any_moment : LeavesOnly moment left_since old new (Yields content (committed_in steps) [])
-
--- So it is of a disk at rest whose bytes are sound and stand for a content.
-abbrev pub KeepsPlaying : {D : Type 0} → (D → List ℕ) → (D → List ℕ → Type 0) → (D → ℕ) →
-    (D → ℕ → List ℕ → Type 0) → D → D → Type 0
-KeepsPlaying seen may_leave moment left_since old new =
-    (content : List Collection) → IsAtRest seen may_leave old → IsSound (seen old) →
-    StandsFor (seen old) content → WasPlayed moment left_since content old new
+  pub led : Plays g opened steps world
+  pub any_moment : LeavesOnly g.moment g.left_since old world.keeper.disk
+      (Yields content (committed_in steps) [])
+  pub each_line : (first : List Line) (line : Line) (last : List Line) →
+      lines ≡ first ++ line ∷ last →
+      IsLineOf g content opened first line last steps clients world
+  pub marked : greatest_told steps ≤ world.mark
+  pub stop : (bytes : List ℕ) → g.may_leave world.keeper.disk bytes →
+      Yields content (committed_in steps) (take world.mark (committed_in steps)) bytes
 
 -- A world of the disk was made by an opening: its book and its keeper are those that the opening
 -- answered, nothing is in transit, and numbers are drawn from the book's next one on. Its past
@@ -64,32 +106,34 @@ pub record StartsFrom {D : Type 0} (g : Ghosts D) (old : D) (w : Whole D) : Type
       IsAtRest g.seen g.may_leave old → HasPast g.seen g.may_leave content [] (parts w)
 
 -- Lines are played on a disk: it was opened, the lines were carried out, one after another, for 64
--- clients that had done nothing before, and the disk is that of the world behind them.
+-- clients that had done nothing before, and the disk is that of the world behind them. A stop in
+-- the opening leaves the content; and where the disk was at rest and its sound bytes stood for a
+-- content, the lines went on from that, and what is said of a stop at any moment is said of each
+-- since the opening began.
 pub record ArePlayedOn {D : Type 0} (g : Ghosts D) (lines : List Line) (old new : D) : Type 0 where
   pub opened : Whole D
   pub starts : StartsFrom g old opened
+  pub keeps : KeepsContent g.seen g.may_leave g.moment g.left_since old opened.keeper.disk
   pub clients : List Client
   pub world : Whole D
   pub carried : CarriesOut g (replicate 64 nobody) opened lines clients world
   pub disk : new ≡ world.keeper.disk
+  pub played : (content : List Collection) → IsAtRest g.seen g.may_leave old →
+      IsSound (g.seen old) → StandsFor (g.seen old) content →
+      WasPlayed g content lines old opened clients world
 
 -- So are the lines of a script.
 abbrev pub IsPlayedOn : {D : Type 0} (g : Ghosts D) → List ℕ → D → D → Type 0
 IsPlayedOn g script old new = (lines : List Line) × IsScriptOf lines script ×
     ArePlayedOn g lines old new
 
--- A beginning of a script's lines is played on a disk, or none: then the store was opened at most,
--- and its content stays.
-abbrev pub IsPlayedInPart : {D : Type 0} (g : Ghosts D) → List ℕ → D → D → Type 0
-IsPlayedInPart g script old new = OpeningLeaves g old new ⊎
-    ((lines : List Line) × IsScriptOf lines script × ((n : ℕ) ×
+-- What a play leaves, done or not: a beginning of the script's lines was played on the disk, or
+-- none, and then the store was opened at most, and a stop leaves its content. So no line was
+-- carried out that the script does not have, nor one before an earlier one.
+abbrev pub IsLeftByPlay : {D : Type 0} (g : Ghosts D) → List ℕ → D → D → Type 0
+IsLeftByPlay g script old new = OpeningLeaves g old new
+    ⊎ ((lines : List Line) × IsScriptOf lines script × ((n : ℕ) ×
     ArePlayedOn g (take n lines) old new))
-
--- What a play leaves, done or not: no line was carried out that the script does not have, nor one
--- before an earlier one; and what a stop at any moment of it might have left.
-pub record IsLeftByPlay {D : Type 0} (g : Ghosts D) (script : List ℕ) (old new : D) : Type 0 where
-  pub in_part : IsPlayedInPart g script old new
-  pub any_moment : KeepsPlaying g.seen g.may_leave g.moment g.left_since old new
 
 -- A script is played on some disk that was an empty store, at rest.
 pub record IsPlayedAnew {D : Type 0} (g : Ghosts D) (script : List ℕ) : Type 0 where
@@ -213,23 +257,25 @@ Leaves g Task.Demo script old new = new ≡ old
 
 -- ---- a copy, from the two disks as they were to the two as they are
 
--- The new disk has room for two areas of this size, and is a copy of the old one, at rest.
-pub record IsCopied {D N : Type 0} (g : Ghosts D) (h : Ghosts N) (area : ℕ) (before after : D × N) :
-    Type 0 where
+-- The new disk has room for two areas of this size, and is a copy of the old one with these edits
+-- made, at rest.
+pub record IsCopied {D N : Type 0} (g : Ghosts D) (h : Ghosts N) (area : ℕ) (edits : List Edit)
+    (before after : D × N) : Type 0 where
   pub room : IsRoomFor Format.Two area (length (h.seen before.1))
-  pub copy : g.is_honest after.0 → IsCopyOf (g.seen before.0) area (h.seen after.1)
+  pub copy : g.is_honest after.0 → IsCopyOf (g.seen before.0) edits area (h.seen after.1)
   pub at_rest : IsAtRest h.seen h.may_leave after.1
 
 -- Why a store was not copied; and the new disk is as it was, unless it failed.
 pub record IsCopyRefused {D N : Type 0} (g : Ghosts D) (h : Ghosts N) (area : ℕ)
-    (before after : D × N) : Type 0 where
+    (edits : List Edit) (before after : D × N) : Type 0 where
   pub refusal : Refusal
   pub why : IsCopyAnswer (IsRoomFor Format.Two area (length (h.seen before.1)))
       (Rises (g.fault_count before.0) (g.fault_count after.0) ⊎
       Rises (h.fault_count before.1) (h.fault_count after.1))
       (g.is_honest after.0 → HasNoHeader (g.seen before.0))
       (λ place. g.is_honest after.0 → IsDamagedAt (g.seen before.0) place)
-      (g.is_honest after.0 → IsTooLarge (g.seen before.0) area) (Err refusal)
+      (λ e. g.is_honest after.0 → IsUneditable (g.seen before.0) edits e)
+      (g.is_honest after.0 → IsTooLarge (g.seen before.0) edits area) (Err refusal)
   pub starved : refusal ≡ Refusal.NoMemory → g.is_honest after.0 → HasHeader (g.seen before.0)
   pub unwritten : (after.1 ≡ before.1) ⊎
       ((refusal ≡ Refusal.Fault) × Rises (h.fault_count before.1) (h.fault_count after.1))

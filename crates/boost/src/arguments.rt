@@ -1,6 +1,6 @@
 // The program's command line.
 ghost use Rattle.std.specs.Prelude.{◌≡◌, ◌↔◌, codes, false, true, map, IfOk, Some, IfSome};
-ghost use Rattle.std.specs.Prelude.{IsSomeAnd, IsTrue, string_bytes};
+ghost use Rattle.std.specs.Prelude.{IsSomeAnd, IsTrue, OnOk, ◌++◌, string_bytes};
 ghost use Rattle.std.specs.Result.{IsOkAnd};
 ghost use Rattle.std.specs.Option.{option_map};
 ghost use Rattle.clap.specs.declared.builder.command.Command.TheViews.{out-Command};
@@ -14,16 +14,24 @@ ghost use Rattle.boost.specs.Arguments.{running_app, looking_app, changing_app};
 ghost use Rattle.boost.specs.Arguments.{ArePaths, Asks, AsksTask, IsIdle};
 ghost use Rattle.boost.specs.Sizes.{IsSizeOf};
 ghost use Rattle.boost.specs.Arguments.{IsVersion, version_rule, IsArea, copy_area_rule};
+ghost use Rattle.boost.specs.Arguments.{without_rule, rename_rule, edits_asked, renames};
+ghost use Rattle.boost.specs.Arguments.{values_of};
+ghost use Rattle.recovery.specs.declared.editing.Edit.{Edit};
 ghost use Rattle.boost.specs.Arguments.{IsAskedBy};
 
 use crate::sizes::size;
+use calls::Name;
 use clap::error::ErrorKind;
 use clap::{Arg, ArgAction, ArgMatches, Error, value_parser};
+use recovery::Edit;
 use std::alloc::{AllocError, Global};
 use std::num::ParseIntError;
 
 /// The version of the program, as `boost --version` prints it.
 pub const VERSION: &str = "1.0.0";
+
+// What help calls the two values of a renaming.
+const RENAMED: &[&str] = &["NAME", "OTHER"];
 
 // What is said of a size of areas that is none.
 const NO_SIZE: &str = "invalid value for '--area <N>': it is a number of bytes, as 65536 or 64K";
@@ -35,12 +43,14 @@ pub enum Invocation {
     Run(Task),
     /// Copies the store in a file to another file, with two areas of so many bytes, or where no
     /// number is given with two as large as those of the old file. `group` asks that the group of
-    /// the new file's folder may read and write it.
+    /// the new file's folder may read and write it. The edits are what is left out, in the order of
+    /// the command line, and then what is renamed, in the same.
     Copy {
         old: String,
         new: String,
         area: Option<u64>,
         group: bool,
+        edits: Vec<Edit>,
     },
     /// Tells the lines of a script that are not understood. No disk is opened.
     Lint {
@@ -56,12 +66,14 @@ pub enum Invocation {
     /// Keeps the store in the file open, and serves clients: those of the door of a folder, where
     /// one is given, else those of its own input and output. A client that is silent for `idle`
     /// seconds, from 1 on, has its transaction undone; none where that is not given. `shell` asks
-    /// that its own input and output are a person's, who is shown a prompt and help.
+    /// that its own input and output are a person's, who is shown a prompt and help, and `log` that
+    /// it is told what happens.
     Listen {
         disk: String,
         folder: Option<String>,
         idle: Option<u64>,
         shell: bool,
+        log: bool,
     },
 }
 
@@ -274,10 +286,36 @@ fn listen_command<'a>(alloc: Global, about: &'a str) -> Result<clap::Command<'a>
     ensures { IfOk result (λ c. (app_of c ≡ listen_app) × ((out-Command c).has_globals ≡ false)) }
 {
     let shell = "Speak with a person: show a prompt, take lines without a client, know help";
+    let log = "Tell on standard error when it is open, who comes and goes, and each checkpoint";
     disk_command(alloc, "listen", about)?
         .arg(folder(alloc))?
         .arg(idle(alloc))?
-        .arg(flag(alloc, "shell", shell))
+        .arg(flag(alloc, "shell", shell))?
+        .arg(flag(alloc, "log", log))
+}
+
+// A collection that a copy leaves out, as often as it is written.
+fn without<'a>(alloc: Global) -> Arg<'a>
+    ensures rule { rule_of result ≡ without_rule }
+    ensures alone { result.global ≡ false }
+{
+    Arg::new(alloc, "without")
+        .long("without")
+        .value_name("NAME")
+        .action(ArgAction::Append)
+        .help("Leave this collection out of the copy; may be said several times")
+}
+
+// A collection that has another name in a copy, as often as it is written.
+fn rename<'a>(alloc: Global) -> Arg<'a>
+    ensures rule { rule_of result ≡ rename_rule }
+    ensures alone { result.global ≡ false }
+{
+    Arg::new(alloc, "rename")
+        .long("rename")
+        .value_names(RENAMED)
+        .action(ArgAction::Append)
+        .help("Name it OTHER in the copy, after what is left out; may be said several times")
 }
 
 // The command that copies a store.
@@ -294,7 +332,9 @@ fn copy_command<'a>(alloc: Global, about: &'a str) -> Result<clap::Command<'a>, 
         ))?
         .arg(path(alloc, "NEW", new))?
         .arg(area_of_copy(alloc))?
-        .arg(group(alloc))
+        .arg(group(alloc))?
+        .arg(without(alloc))?
+        .arg(rename(alloc))
 }
 
 // The command that reads a script alone.
@@ -473,12 +513,14 @@ fn listen_asked(alloc: Global, found: &ArgMatches<'_>) -> Result<Option<Invocati
     };
     let folder = text(alloc, found, "FOLDER")?;
     let shell = is_given(found, "shell");
+    let log = is_given(found, "log");
     match idle_asked(found) {
         Ok(idle) => Ok(Some(Invocation::Listen {
             disk,
             folder,
             idle,
             shell,
+            log,
         })),
         Err(_) => Ok(None),
     }
@@ -505,16 +547,73 @@ fn copy_asked(alloc: Global, found: &ArgMatches<'_>) -> Result<Option<Invocation
     let Some(old) = text(alloc, found, "OLD")? else {
         return Ok(None);
     };
+    let Some(new) = text(alloc, found, "NEW")? else {
+        return Ok(None);
+    };
     let group = is_given(found, "group");
-    match text(alloc, found, "NEW")? {
-        Some(new) => Ok(Some(Invocation::Copy {
-            old,
-            new,
-            area,
-            group,
-        })),
-        None => Ok(None),
+    let edits = edits_asked(alloc, found)?;
+    Ok(Some(Invocation::Copy {
+        old,
+        new,
+        area,
+        group,
+        edits,
+    }))
+}
+
+// What a copy is to leave out, and then what it is to rename.
+fn edits_asked(alloc: Global, found: &ArgMatches<'_>) -> Result<Vec<Edit>, AllocError>
+    ensures { IfOk result (λ edits. edits.items ≡ edits_asked (rows_of (found_of found.now))) }
+{
+    let mut edits = Vec::new(alloc);
+    push_without(alloc, found, &mut edits)?;
+    push_renames(alloc, found, &mut edits)?;
+    Ok(edits)
+}
+
+// Leaves each collection out that is named.
+fn push_without(
+    alloc: Global,
+    found: &ArgMatches<'_>,
+    edits: &mut Vec<Edit>,
+) -> Result<(), AllocError>
+    ensures { OnOk result (edits.new.items ≡ edits.old.items ++
+        map Edit.Without (values_of (codes "without") (rows_of (found_of found.now)))) }
+{
+    let Some(names) = found.get_strs("without") else {
+        return Ok(());
+    };
+    for name in names {
+        edits.push(Edit::Without(name_of(alloc, name)?))?;
     }
+    Ok(())
+}
+
+// Renames the first of each two collections that are named to the second.
+fn push_renames(
+    alloc: Global,
+    found: &ArgMatches<'_>,
+    edits: &mut Vec<Edit>,
+) -> Result<(), AllocError>
+    ensures { OnOk result (edits.new.items ≡ edits.old.items ++
+        renames (values_of (codes "rename") (rows_of (found_of found.now)))) }
+{
+    let Some(mut left) = found.get_strs("rename") else {
+        return Ok(());
+    };
+    while let [from, to, more @ ..] = left {
+        let (from, to) = (name_of(alloc, from)?, name_of(alloc, to)?);
+        edits.push(Edit::Rename { from, to })?;
+        left = more;
+    }
+    Ok(())
+}
+
+// The name that a text spells.
+fn name_of(alloc: Global, text: &str) -> Result<Name, AllocError>
+    ensures { IfOk result (λ name. name ≡ text.now) }
+{
+    Ok(Name::new(String::from_str(alloc, text)?))
 }
 
 // What the command of the name asks for.

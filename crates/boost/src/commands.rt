@@ -62,10 +62,11 @@ use world::World;
 /// Show and Stat hold the items of one collection at a time beside it, and Stat an image.
 ///
 /// What a stop leaves, of a disk at rest that reads true and whose bytes are sound: of a Show and
-/// of an Upgrade the content; of a Play the content that a beginning of what its steps committed
-/// gives; of a Format what `recovery::format_as` says. A Format for which the disk has not the
-/// room, or has more, leaves the disk as it was. Output is held in a buffer, so it comes at the end
-/// and where the buffer is full.
+/// of an Upgrade the content; of a Play the content that a beginning of what its lines committed
+/// gives, which from each line on that was answered that so much is kept has that; of a Format what
+/// `recovery::format_as` says. A Format for which the disk has not the room, or has more, leaves
+/// the disk as it was. Output is held in a buffer, so it comes at the end and where the buffer is
+/// full.
 ///
 /// The status is 0 where the command was done; lines of the script that were refused count as done.
 /// Of a Show it says that a store was opened, or found where nothing is to be written, of a Check

@@ -6,8 +6,8 @@
 //! of `specs/Effects`). Texts have no clause: the cases show them.
 //!
 //! **Where its argument stands.** A play is carried out by the `Player` of `talks`, over a `World`,
-//! whose theorem is the crash theorem on one thread; `serve` is a `Work` of `fizgaloms`, whose
-//! clients are each a `Session` of `talks`.
+//! whose theorem is the crash theorem on one thread. A script whose clients run in threads is served
+//! by `boost_main`.
 //!
 //! **To change it.** A new command is a `Task` (`arguments.rt`), a case of `IsDone` and `Leaves`, a
 //! function in `commands.rt`, and what opens its files in `boost_main`. A status or a text of a
@@ -16,12 +16,10 @@
 
 mod arguments;
 mod commands;
-mod script_work;
-mod serving;
 mod sizes;
 
 pub use arguments::{Invocation, Task, VERSION, command};
 pub use commands::{Failure, STORED_RUN, report, run, run_copy};
+pub use recovery::Edit;
 pub use script::{Action, Line, Request, parse};
-pub use serving::serve;
 pub use talks::{End, Response, Session, Speaker};

@@ -1,1 +1,2 @@
+pub mod ScriptClients
 pub mod TalkingLemmas

@@ -11,8 +11,10 @@ use crate::files::{
 use crate::lint::{lint, tell_first_unclear};
 use crate::listen::{listen_at_door, listen_to_input};
 use crate::multiplex::Multiplex;
+use crate::serving::serve;
+use crate::state::ServerState;
 use crate::watching::{Doing, Shared, Watches, Watching};
-use boost::{Failure, Invocation, Task, command, report, run, run_copy, serve};
+use boost::{Edit, Failure, Invocation, Task, command, report, run, run_copy};
 use calls::{Format, Refusal};
 use clap::error::ErrorKind;
 use disk_model::{Content, Disk, MemDisk};
@@ -23,7 +25,7 @@ use std::io::{Read, Write};
 use std::rt::{Clock, Files};
 use std::sync::{Mutex, Wait};
 use std::thread::Threads;
-use std::time::Duration;
+use std::time::{Duration, Instant};
 use talks::KeepingState;
 
 // What an argument has to be.
@@ -114,16 +116,17 @@ fn format_new<'a, S: Content, W: Watch, R: Files<File = File> + AllocGlobal>(
     Ok(status)
 }
 
-// Copies the store in a file to another file, with two such areas, or with two as large as its own
-// where none are asked for. Refused BadArg where the two paths are one, before a file is touched;
-// the same file under two names is refused by its lock. The other file is as it was until it holds
-// the copy.
+// Copies the store in a file to another file with the edits made, with two such areas, or with two
+// as large as its own where none are asked for. Refused BadArg where the two paths are one, before
+// a file is touched; the same file under two names is refused by its lock. The other file is as it
+// was until it holds the copy.
 fn copy_store<'a, S: Content, W: Watch, R: Files<File = File> + AllocGlobal>(
     rt: &R,
     old: &'a str,
     new: &'a str,
     area: Option<u64>,
     group: bool,
+    edits: &[Edit],
     watch: &W,
     out: &mut impl Write,
     err: &mut impl Write,
@@ -139,7 +142,7 @@ fn copy_store<'a, S: Content, W: Watch, R: Files<File = File> + AllocGlobal>(
     let place = look_at(rt, new)?;
     let (making, to) = begin_disk::<S, W, R>(rt, new, place, area, false, group, watch)?;
     let mut told = Vec::new(rt.alloc());
-    let (status, from, to) = run_copy(rt.alloc(), from, to, area, &mut told, err);
+    let (status, from, to) = run_copy(rt.alloc(), from, to, area, edits, &mut told, err);
     if status == REFUSED {
         tell_cause(&from, err);
         tell_cause(&to, err);
@@ -272,6 +275,7 @@ fn carry_out<
             new,
             area,
             group,
+            edits,
         } => {
             copy_store::<S, _, R>(
                 rt,
@@ -279,6 +283,7 @@ fn carry_out<
                 new.as_str(),
                 *area,
                 *group,
+                edits.as_slice(),
                 watch,
                 out,
                 err,
@@ -299,10 +304,16 @@ fn carry_out<
             folder,
             idle,
             shell,
+            log,
         } => {
+            let began = if *log { Instant::now(rt).ok() } else { None };
             let disk = open_disk::<S, _>(rt, disk.as_str(), Access::Writes, watch)?;
             let idle = idle.map(Duration::from_secs);
-            let state = KeepingState::new(watch.fault(), watch.writing_since());
+            let state = ServerState {
+                keeping: KeepingState::new(watch.fault(), watch.writing_since()),
+                counts: watch.counts(),
+                began,
+            };
             if let Some(folder) = folder {
                 return listen_at_door(rt, disk, fifos, folder.as_str(), idle, state, err);
             }

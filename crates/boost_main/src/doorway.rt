@@ -5,14 +5,16 @@ ghost use Rattle.talks.specs.Dialogues.{LeadsOn};
 
 use crate::answers::Answers;
 use crate::arrivals::Arrivals;
+use crate::events::Event;
 use crate::fifos::{Fifos, Way};
 use crate::notes::Notes;
 use crate::outlet::Outlet;
 use crate::seat::{Call, Seat};
 use crate::served::Served;
+use crate::state::ServerState;
 use crate::trouble::Trouble;
 use crate::until::Until;
-use crate::words::{leftovers, remove_all, word_of};
+use crate::words::{Request, leftovers, remove_all, request_of};
 use calls::Refusal;
 use calls::limits::MAX_LIVE;
 use crossbeam_channel::{Receiver, RecvTimeoutError, Sender, TrySendError, bounded};
@@ -27,10 +29,15 @@ use std::sync::{Mutex, Wait};
 use std::time::Duration;
 use std::{mem, thread};
 use store::{Client, Naming};
-use talks::{Ended, Found, KeepingState, Noted, Noting, Printer, read_line, talk_with};
+use talks::{Ended, Found, Hearer, Noted, Noting, Response, Told, read_line, talk_with};
 
-// How many clients that came wait at most.
+// How many clients that came wait at most, and how many who ask how the store stands.
 const MAX_WAITING: usize = 4096;
+
+const MAX_ASKING: usize = 64;
+
+// How many more ask until one who asked and does not read the answer is given up.
+const ASK_PATIENCE: u64 = 8;
 
 // How many bytes one read takes at most.
 const READ_SIZE: usize = 65_536;
@@ -54,9 +61,14 @@ const LAST_LOOKS: u32 = 5;
 /// the door ends all of them; and so does an early end of keeping, about which those who ask in the
 /// next 0.3 seconds are told first.
 ///
+/// Who writes the line `status WORD` into the door is told how the store stands, in one line, by
+/// the FIFO `WORD.from` alone, which it has made and opened. It is no client: it is answered also
+/// while 64 are served. A thread does nothing but that, so one who does not read its answer holds
+/// up others who ask, until eight more have, and nobody else.
+///
 /// A word has 1 to 64 bytes, each a small letter, a digit, `-` or `_`. Another line at the door is
-/// passed over. So is a client whose FIFOs cannot be opened, and one before whom 4,096 others wait:
-/// it hears nothing, and the notes have a line with its word and why.
+/// passed over. So is a client whose FIFOs cannot be opened, and one before whom 4,096 others wait,
+/// or 64 who ask: it hears nothing, and the notes have a line with its word and why.
 ///
 /// Where a time is set, what a client has open is taken back once it has said nothing for so long,
 /// or up to half as long again. While others wait, one who was silent for twice that time has its
@@ -74,7 +86,13 @@ pub struct Doorway<'a, F, E> {
     notes: Mutex<Notes<E>>,
     arrivals: Arrivals,
     receiver: Receiver<String>,
-    sender: Mutex<Option<Sender<String>>>,
+    // Who asks how the store stands, how many have asked, and what is written to the one that is
+    // told.
+    asking: Receiver<String>,
+    asked: AtomicU64,
+    teller: Outlet,
+    // Taken by who reads the door.
+    senders: Mutex<Option<Senders>>,
     // What the first thread reads: the door. Then what each other one reads.
     door: Seat,
     seats: Vec<Seat>,
@@ -85,11 +103,17 @@ pub struct Doorway<'a, F, E> {
     // The door is read no more.
     is_closed: AtomicBool,
     is_over: AtomicBool,
-    // How keeping goes.
-    state: KeepingState<'a>,
+    state: ServerState<'a>,
     // Who looks waits for the end of these, which have no message.
     ended: Receiver<()>,
     going_on: Mutex<Option<Sender<()>>>,
+}
+
+// By which is handed on who comes, and who asks how the store stands.
+#[derive(Drop)]
+struct Senders {
+    coming: Sender<String>,
+    asking: Sender<String>,
 }
 
 impl<'a, F: Fifos + Drop, E: Write + Drop> Doorway<'a, F, E> {
@@ -100,10 +124,11 @@ impl<'a, F: Fifos + Drop, E: Write + Drop> Doorway<'a, F, E> {
         fifos: F,
         folder: &'a str,
         idle: Option<Duration>,
-        state: KeepingState<'a>,
+        state: ServerState<'a>,
         notes: E,
     ) -> Result<Self, AllocError> {
-        let (sender, receiver) = bounded(alloc, MAX_WAITING)?;
+        let (coming, receiver) = bounded(alloc, MAX_WAITING)?;
+        let (asking_sender, asking) = bounded(alloc, MAX_ASKING)?;
         let (going_on, ended) = bounded(alloc, 1)?;
         let (mut seats, mut outlets) = (Vec::new(alloc), Vec::new(alloc));
         for _ in 0..MAX_LIVE {
@@ -118,7 +143,13 @@ impl<'a, F: Fifos + Drop, E: Write + Drop> Doorway<'a, F, E> {
             notes,
             arrivals: Arrivals::new(threads(idle)),
             receiver,
-            sender: Mutex::new(Some(sender)),
+            asking,
+            asked: AtomicU64::new(0),
+            teller: Outlet::new(),
+            senders: Mutex::new(Some(Senders {
+                coming,
+                asking: asking_sender,
+            })),
             door: Seat::new(),
             seats,
             outlets,
@@ -131,8 +162,8 @@ impl<'a, F: Fifos + Drop, E: Write + Drop> Doorway<'a, F, E> {
         })
     }
 
-    /// How many threads serve the clients: one at the door, one for each client, and one that looks
-    /// for idle ones where a time is set.
+    /// How many threads serve the clients: one at the door, one for each client, one that tells how
+    /// the store stands, and one that looks for idle clients where a time is set.
     pub fn threads(&self) -> usize {
         threads(self.idle)
     }
@@ -146,8 +177,9 @@ impl<'a, F: Fifos + Drop, E: Write + Drop> Doorway<'a, F, E> {
     // Reads the door up to `end`, and then ends all clients. They are ended also where the door
     // cannot be read. Where keeping has ended, those who ask meanwhile are told first.
     fn watch<R: Wait + Clock + AllocGlobal>(&self, rt: &R) -> Result<(), Trouble> {
+        self.note(rt, self.state.opened(rt));
         let watched = self.watch_door(rt);
-        if self.state.is_noted() {
+        if self.state.keeping.is_noted() {
             thread::sleep(rt, Duration::from_millis(LAST));
         }
         self.end_all(rt);
@@ -155,17 +187,25 @@ impl<'a, F: Fifos + Drop, E: Write + Drop> Doorway<'a, F, E> {
         watched
     }
 
-    // Waits until no client is served any more. Who reads nothing is given up soon.
+    // Notes what happened, if it is to be told.
+    fn note<R: Wait>(&self, rt: &R, event: Option<Event<'_>>) {
+        if let Some(event) = event {
+            self.notes.lock(rt).event(event);
+        }
+    }
+
+    // Waits until nobody is served or told any more. Who reads nothing is given up soon.
     fn see_all_go<R: Wait + Clock + AllocGlobal>(&self, rt: &R) {
         let mut looks = 0u32;
         for _ in rt.forever() {
-            if !self.seats.iter().any(|seat| seat.is_taken(rt)) {
+            if !self.seats.iter().any(|seat| seat.is_taken(rt)) && !self.teller.is_taken(rt) {
                 return;
             }
             thread::sleep(rt, Duration::from_millis(PAUSE));
             looks = looks.saturating_add(1);
             if looks >= LAST_LOOKS {
                 self.give_up_since(rt, u64::MAX);
+                self.teller.give_up(rt, rt.alloc(), &self.fifos, u64::MAX);
             }
         }
     }
@@ -179,7 +219,7 @@ impl<'a, F: Fifos + Drop, E: Write + Drop> Doorway<'a, F, E> {
 
     // Reads the door, and hands on who comes, up to `end`, or until all is over.
     fn watch_door<R: Wait + AllocGlobal>(&self, rt: &R) -> Result<(), Trouble> {
-        let Some(sender) = self.sender.lock(rt).take() else {
+        let Some(senders) = self.senders.lock(rt).take() else {
             return Ok(());
         };
         let left = leftovers(&self.fifos, self.folder);
@@ -188,17 +228,17 @@ impl<'a, F: Fifos + Drop, E: Write + Drop> Doorway<'a, F, E> {
         self.door.take(rt, door.as_raw_fd());
         let door = Until::new(rt, door, &self.door, &self.looks, &self.is_closed);
         let mut lines = BufReader::new(rt.alloc(), door)?;
-        let read = self.read_door(rt, &mut lines, &sender);
+        let read = self.read_door(rt, &mut lines, &senders);
         self.door.leave(rt);
         Ok(read?)
     }
 
-    // Hands on who comes by the lines of the door, up to `end`, or to the end of the lines.
+    // Hands on who comes or asks by the lines of the door, up to `end`, or to the end of the lines.
     fn read_door<R: Wait + AllocGlobal>(
         &self,
         rt: &R,
         lines: &mut impl BufRead,
-        sender: &Sender<String>,
+        senders: &Senders,
     ) -> io::Result<()> {
         let alloc = rt.alloc();
         let mut line = Vec::new(alloc);
@@ -209,8 +249,8 @@ impl<'a, F: Fifos + Drop, E: Write + Drop> Doorway<'a, F, E> {
                     if said == b"end".as_slice() {
                         break;
                     }
-                    if let Some(word) = word_of(alloc, said)? {
-                        self.hand_on(rt, sender, word);
+                    if let Some(request) = request_of(alloc, said)? {
+                        self.hand_on(rt, senders, request);
                     }
                 }
                 Found::TooLong => {}
@@ -222,12 +262,65 @@ impl<'a, F: Fifos + Drop, E: Write + Drop> Doorway<'a, F, E> {
         Ok(())
     }
 
-    // Hands on who comes. It waits for nobody, so that `end` is heard whoever waits.
-    fn hand_on<R: Wait>(&self, rt: &R, sender: &Sender<String>, word: String) {
-        if let Err(TrySendError::Full(word)) = sender.try_send(rt, word) {
+    // Hands on who comes or asks. It waits for nobody, so that `end` is heard whoever waits.
+    fn hand_on<R: Wait + AllocGlobal>(&self, rt: &R, senders: &Senders, request: Request) {
+        let sent = match request {
+            Request::Hello(word) => senders.coming.try_send(rt, word),
+            Request::Status(word) => {
+                self.count_asking(rt);
+                senders.asking.try_send(rt, word)
+            }
+        };
+        if let Err(TrySendError::Full(word)) = sent {
             let why = io::Error::other("too many others wait");
             self.notes.lock(rt).passed_over(word.as_str(), &why);
         }
+    }
+
+    // One more asks how the store stands. Who has not read its answer while so many others asked is
+    // given up.
+    fn count_asking<R: Wait + AllocGlobal>(&self, rt: &R) {
+        let before = self.asked.fetch_add(1, Ordering::SeqCst);
+        if let Some(since) = before.checked_sub(ASK_PATIENCE) {
+            self.teller.give_up(rt, rt.alloc(), &self.fifos, since);
+        }
+    }
+
+    // Tells those who ask how the store stands, one after another, until all is over.
+    fn tell_all<J: Naming, R: Wait + AllocGlobal>(&self, rt: &R, client: &Client<'_, J>) {
+        for word in self.asking.iter(rt) {
+            if self.is_over.load(Ordering::SeqCst) {
+                return;
+            }
+            if let Err(error) = self.tell(rt, client, word.as_str()) {
+                self.notes.lock(rt).passed_over(word.as_str(), &error);
+            }
+        }
+    }
+
+    // Tells who asks by a word how the store stands, and takes the name of its FIFO away.
+    fn tell<J: Naming, R: Wait + AllocGlobal>(
+        &self,
+        rt: &R,
+        client: &Client<'_, J>,
+        word: &str,
+    ) -> io::Result<()> {
+        let alloc = rt.alloc();
+        let from = format!(in alloc; "{}/{word}.from", self.folder)?;
+        let writer = self.fifos.open(alloc, from.as_str(), Way::Write)?;
+        self.fifos.remove(from.as_str())?;
+        let number = writer.as_raw_fd();
+        let writer = Answers::new(rt, writer, &self.teller, &self.asked, &self.is_over);
+        let mut hearer = self.state.printer(alloc, writer);
+        self.teller.take(rt, number);
+        // asked behind that: who waits for the end of all sees it, or is seen
+        let told = if self.is_over.load(Ordering::SeqCst) {
+            Ok(())
+        } else {
+            tell_at_once(&mut hearer, self.state.status(rt, alloc, client))
+        };
+        self.teller.leave(rt);
+        told
     }
 
     // Opens the door for both ways, and takes its lock, which it has as long as it is open.
@@ -322,14 +415,16 @@ impl<'a, F: Fifos + Drop, E: Write + Drop> Doorway<'a, F, E> {
         let reader = Until::new(rt, reader, seat, &self.looks, &self.is_over);
         let lines = BufReader::with_capacity(alloc, READ_SIZE, reader)?;
         let hearer = Noting {
-            hearer: Printer::new(alloc, writer).with_state(&self.state),
+            hearer: self.state.printer(alloc, writer),
             noted: mem::replace(told, Noted::new()),
         };
         seat.take(rt, number);
         outlet.take(rt, answers);
+        self.note(rt, self.state.came(word));
         let (ended, _lines, hearer) = talk_with(rt, client, lines, hearer);
         outlet.leave(rt);
         seat.leave(rt);
+        self.note(rt, self.state.went(word));
         *told = hearer.noted;
         Ok(ended)
     }
@@ -406,8 +501,9 @@ impl<'a, F: Fifos + Drop, E: Write + Drop> Doorway<'a, F, E> {
             return self.watch(rt);
         };
         let (Some(seat), Some(outlet)) = (self.seats.get(of), self.outlets.get(of)) else {
-            if let Some(idle) = self.idle {
-                self.look(rt, idle);
+            match self.idle {
+                Some(idle) if of > MAX_LIVE => self.look(rt, idle),
+                _ => self.tell_all(rt, client),
             }
             return Ok(());
         };
@@ -423,8 +519,8 @@ impl<F: Fifos + Drop, E: Write + Drop> Work for Doorway<'_, F, E> {
 
     ghost says = { λ _. TellsTalks };
 
-    /// The first thread reads the door, and each other one serves clients. One more looks for idle
-    /// ones.
+    /// The first thread reads the door, and each other one serves clients. One more tells how the
+    /// store stands, and one looks for idle clients.
     ///
     /// Its end is refused where not all threads come, where the door cannot be read or another run
     /// has it, and where it has no memory for who comes.
@@ -441,9 +537,14 @@ impl<F: Fifos + Drop, E: Write + Drop> Work for Doorway<'_, F, E> {
 
     /// The door is read no more, and all are ended a moment later.
     fn keeping_ended<R: Wait + AllocGlobal>(&self, rt: &R, refusal: Refusal) {
-        self.state.note(refusal);
+        self.state.keeping.note(refusal);
         self.is_closed.store(true, Ordering::SeqCst);
         self.wake(rt, &self.door, u64::MAX, false);
+    }
+
+    /// It is counted, and noted if it is to be told.
+    fn checkpoint_taken<R: Wait + AllocGlobal>(&self, rt: &R, took: Duration) {
+        self.note(rt, self.state.checkpoint_taken(took));
     }
 
     /// It is noted.
@@ -452,7 +553,13 @@ impl<F: Fifos + Drop, E: Write + Drop> Work for Doorway<'_, F, E> {
     }
 }
 
+// Tells this, and sends it on.
+fn tell_at_once<H: Hearer<Response>>(hearer: &mut H, told: Told<Response>) -> io::Result<()> {
+    hearer.hear(told)?;
+    hearer.send()
+}
+
 // How many threads serve the clients, where such a time is set.
 fn threads(idle: Option<Duration>) -> usize {
-    MAX_LIVE + 1 + usize::from(idle.is_some())
+    MAX_LIVE + 2 + usize::from(idle.is_some())
 }

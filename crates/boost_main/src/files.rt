@@ -104,7 +104,7 @@ pub fn area_of_copy(asked: Option<u64>, size: u64) -> Result<u64, Refusal>
 
 /// Opens the file of a disk that is there.
 pub fn open_disk<'a, 'w, S: Content, W: Watch>(
-    rt: &impl Files<File = File>,
+    rt: &(impl Files<File = File> + AllocGlobal),
     path: &'a str,
     access: Access,
     watch: &'w W,

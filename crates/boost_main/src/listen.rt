@@ -6,6 +6,7 @@ use crate::files::{StoreDisk, cannot_open};
 use crate::listening::{serve_door, serve_input};
 use crate::multiplex::Multiplex;
 use crate::served::Served;
+use crate::state::ServerState;
 use crate::trouble::Trouble;
 use boost::{Failure, report};
 use calls::Refusal;
@@ -17,7 +18,6 @@ use std::rt::Clock;
 use std::sync::Wait;
 use std::thread::Threads;
 use std::time::Duration;
-use talks::KeepingState;
 
 /// Keeps the store of a disk open, and serves the clients that share an input and an output.
 /// Answers the status: 0 at the end of the input, once all that was committed is kept.
@@ -61,7 +61,7 @@ pub fn listen_at_door<
     fifos: F,
     folder: &'a str,
     idle: Option<Duration>,
-    state: KeepingState<'_>,
+    state: ServerState<'_>,
     err: &mut (impl Write + Send),
 ) -> Result<u8, Failure<'a>> {
     let door = format!(in rt.alloc(); "{folder}/door")?;

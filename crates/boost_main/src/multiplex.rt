@@ -3,12 +3,14 @@ ghost use Rattle.talks.specs.Dialogues.{LeadsOn};
 
 use crate::arrivals::Arrivals;
 use crate::coming::Coming;
+use crate::events::Event;
 use crate::fifos::Fifos;
 use crate::handing::Handing;
 use crate::notes::Notes;
 use crate::seat::Seat;
 use crate::served::Served;
 use crate::shell::Manner;
+use crate::state::ServerState;
 use crate::tagged::Tagged;
 use crate::trouble::Trouble;
 use crate::until::Until;
@@ -24,7 +26,7 @@ use std::sync::atomic::{AtomicBool, AtomicU64, Ordering};
 use std::sync::{Mutex, Wait};
 use std::time::Duration;
 use store::{Client, Naming};
-use talks::{KeepingState, Noted, Noting, Printer, Why, talk_on_with};
+use talks::{Noted, Noting, Why, talk_on_with};
 
 // How many batches of lines wait for a client at most; then no more input is read.
 const MAX_BATCHES: usize = 64;
@@ -62,8 +64,7 @@ pub struct Multiplex<'a, F, I, O, E> {
     arrivals: Arrivals,
     // No more input is read.
     is_over: AtomicBool,
-    // How keeping goes.
-    state: KeepingState<'a>,
+    state: ServerState<'a>,
     input: Mutex<Option<I>>,
     output: Mutex<O>,
     notes: Mutex<Notes<E>>,
@@ -87,7 +88,7 @@ impl<'a, F: Fifos + Drop, I: Read + Drop, O: Write + Drop, E: Write + Drop> Mult
         output: O,
         notes: E,
         idle: Option<Duration>,
-        state: KeepingState<'a>,
+        state: ServerState<'a>,
     ) -> Result<Self, AllocError> {
         let mut senders = Vec::new(alloc);
         let mut receivers = Vec::new(alloc);
@@ -135,6 +136,13 @@ impl<'a, F: Fifos + Drop, I: Read + Drop, O: Write + Drop, E: Write + Drop> Mult
         MAX_LIVE + 1
     }
 
+    // Notes what happened, if it is to be told.
+    fn note<R: Wait>(&self, rt: &R, event: Option<Event<'_>>) {
+        if let Some(event) = event {
+            self.notes.lock(rt).event(event);
+        }
+    }
+
     // Says hello, and hands out the lines of the input.
     fn hand_out<R: Wait + AllocGlobal>(&self, rt: &R) -> io::Result<()> {
         let input = self.input.lock(rt).take();
@@ -166,7 +174,10 @@ impl<'a, F: Fifos + Drop, I: Read + Drop, O: Write + Drop, E: Write + Drop> Mult
         self.arrivals.wait_for_all(rt)?;
         match thread.checked_sub(1) {
             Some(of) => Ok(self.serve(rt, client, told, of)?),
-            None => Ok(self.hand_out(rt)?),
+            None => {
+                self.note(rt, self.state.opened(rt));
+                Ok(self.hand_out(rt)?)
+            }
         }
     }
 
@@ -207,7 +218,7 @@ impl<'a, F: Fifos + Drop, I: Read + Drop, O: Write + Drop, E: Write + Drop> Mult
         let (manner, text) = (self.manner, Vec::new(alloc));
         let output = Tagged::new(rt, &self.output, number, manner, &self.is_over, text);
         let hearer = Noting {
-            hearer: Printer::new(alloc, output).with_state(&self.state),
+            hearer: self.state.printer(alloc, output),
             noted: mem::replace(told, Noted::new()),
         };
         let (why, _lines, hearer) = talk_on_with(rt, client, lines, hearer);
@@ -258,9 +269,14 @@ impl<F: Fifos + Drop, I: Read + Drop, O: Write + Drop, E: Write + Drop> Work
     /// The input is taken to have ended: at once where it is a FIFO, and else behind what comes
     /// next.
     fn keeping_ended<R: Wait + AllocGlobal>(&self, rt: &R, refusal: Refusal) {
-        self.state.note(refusal);
+        self.state.keeping.note(refusal);
         self.is_over.store(true, Ordering::SeqCst);
         let _woken = self.seat.wake(rt, rt.alloc(), &self.fifos, u64::MAX, false);
+    }
+
+    /// It is counted, and noted if it is to be told.
+    fn checkpoint_taken<R: Wait + AllocGlobal>(&self, rt: &R, took: Duration) {
+        self.note(rt, self.state.checkpoint_taken(took));
     }
 
     /// It is noted.

@@ -1,4 +1,5 @@
 // Lines for who runs the server.
+use crate::events::Event;
 use crate::fifos::Fifos;
 use std::io::{self, Write};
 
@@ -6,9 +7,9 @@ use std::io::{self, Write};
 // that nobody reads holds nobody up.
 const MOST: u64 = 200;
 
-/// Lines about who is passed over, and about a store that is nearly full. Where standard error is a
-/// FIFO, 200 of them are written, and the others are dropped. What is no FIFO, as a file or a
-/// terminal, is told all.
+/// Lines about who is passed over, and about a store that is nearly full; and where that is asked
+/// for, about what happens. Where standard error is a FIFO, 200 of them are written, and the others
+/// are dropped. What is no FIFO, as a file or a terminal, is told all.
 #[derive(Drop)]
 pub struct Notes<E> {
     output: E,
@@ -36,6 +37,14 @@ impl<E: Write> Notes<E> {
     pub fn nearly_full(&mut self, full: u64) {
         if self.takes_one() {
             let _written = writeln!(self.output, "boost: the store is {full} of 100 full");
+            self.end_line();
+        }
+    }
+
+    /// Notes what happened. Where it cannot be written, that changes nothing.
+    pub fn event(&mut self, event: Event<'_>) {
+        if self.takes_one() {
+            let _written = writeln!(self.output, "boost: {event}");
             self.end_line();
         }
     }

@@ -45,6 +45,11 @@ impl Outlet {
         *self.writing.lock(rt) = None;
     }
 
+    /// Whether a file is written.
+    pub fn is_taken<R: Wait>(&self, rt: &R) -> bool {
+        self.writing.lock(rt).is_some()
+    }
+
     /// A write begins, when so many looks were taken; none, where the client is given up. Whether
     /// it is.
     pub fn begin<R: Wait>(&self, rt: &R, look: u64) -> bool {

@@ -1,10 +1,12 @@
 // What is seen of the disks of a command while it goes on.
+use crate::counts::ServerCounts;
 use boost::{Invocation, Task};
 use fizgaloms::Watch;
 use std::io::{self, Write};
 use std::rt::Clock;
 use std::sync::atomic::{AtomicBool, AtomicU64, Ordering};
 use std::sync::{Mutex, OnceLock, Wait};
+use std::time::Duration;
 
 // How many seconds are between two lines about how far it is.
 const PERIOD: u64 = 10;
@@ -41,6 +43,9 @@ pub trait Watches: Watch {
 
     /// The second since 1970 at which the write or sync began that goes on; 0 where none does.
     fn writing_since(&self) -> &AtomicU64;
+
+    /// What the disks have done.
+    fn counts(&self) -> &ServerCounts;
 }
 
 /// An output that is shared, as one of its writers.
@@ -68,8 +73,8 @@ impl<O: Write, R: Wait> Write for Shared<'_, O, R> {
 }
 
 /// Watches the disks of a command. It keeps the system's words for the first write or sync that
-/// failed, knows since when one goes on, and writes a line about how far the command is each ten
-/// seconds while it goes on.
+/// failed, knows since when one goes on, counts what was done, and writes a line about how far the
+/// command is each ten seconds while it goes on.
 #[derive(Drop)]
 pub struct Watching<'a, O, R: Wait> {
     rt: &'a R,
@@ -78,8 +83,10 @@ pub struct Watching<'a, O, R: Wait> {
     fault: OnceLock<io::Error>,
     // The second since 1970 at which the write or sync began that goes on; 0 where none does.
     writing_since: AtomicU64,
+    // At which nanosecond of the clock the last write or sync began.
+    began_at: AtomicU64,
+    counts: ServerCounts,
     read: AtomicU64,
-    written: AtomicU64,
     // At which second of the clock the last line was written, or it began.
     told_at: AtomicU64,
     // No more lines are written.
@@ -95,8 +102,9 @@ impl<'a, O: Write, R: Wait + Clock> Watching<'a, O, R> {
             doing,
             fault: OnceLock::new(),
             writing_since: AtomicU64::new(0),
+            began_at: AtomicU64::new(0),
+            counts: ServerCounts::new(),
             read: AtomicU64::new(0),
-            written: AtomicU64::new(0),
             told_at: AtomicU64::new(seconds(rt).unwrap_or(0)),
             is_over: AtomicBool::new(false),
         }
@@ -117,7 +125,7 @@ impl<'a, O: Write, R: Wait + Clock> Watching<'a, O, R> {
 
     fn tell(&self) -> io::Result<()> {
         let read = self.read.load(Ordering::SeqCst) / UNIT;
-        let written = self.written.load(Ordering::SeqCst) / UNIT;
+        let written = self.counts.written() / UNIT;
         let mut output = Shared::new(self.rt, self.output);
         match self.doing {
             Doing::Opening => writeln!(output, "boost: opening, {read} MB read")?,
@@ -154,6 +162,14 @@ fn seconds(clock: &impl Clock) -> Option<u64> {
     }
 }
 
+// The nanosecond of the clock, where it tells one.
+fn nanoseconds(clock: &impl Clock) -> Option<u64> {
+    match clock.monotonic() {
+        Ok(since) => u64::try_from(since.as_nanos()).ok(),
+        Err(_) => None,
+    }
+}
+
 impl<O: Write, R: Wait + Clock> Watches for Watching<'_, O, R> {
     fn fault(&self) -> &OnceLock<io::Error> {
         &self.fault
@@ -162,16 +178,25 @@ impl<O: Write, R: Wait + Clock> Watches for Watching<'_, O, R> {
     fn writing_since(&self) -> &AtomicU64 {
         &self.writing_since
     }
+
+    fn counts(&self) -> &ServerCounts {
+        &self.counts
+    }
 }
 
 impl<O: Write, R: Wait + Clock> Watch for Watching<'_, O, R> {
     fn begins(&self) {
         let now = second_since_1970(self.rt).unwrap_or(0);
         self.writing_since.store(now, Ordering::SeqCst);
+        let began_at = nanoseconds(self.rt).unwrap_or(u64::MAX);
+        self.began_at.store(began_at, Ordering::SeqCst);
     }
 
     fn ends(&self) {
         self.writing_since.store(0, Ordering::SeqCst);
+        let now = nanoseconds(self.rt).unwrap_or(0);
+        let took = now.saturating_sub(self.began_at.load(Ordering::SeqCst));
+        self.counts.note_wait(Duration::from_nanos(took));
     }
 
     fn failed(&self, error: io::Error) {
@@ -186,11 +211,15 @@ impl<O: Write, R: Wait + Clock> Watch for Watching<'_, O, R> {
     }
 
     fn has_written(&self, count: usize) {
+        self.counts.note_written(count);
         if self.doing == Doing::Opening {
             self.is_over.store(true, Ordering::SeqCst);
             return;
         }
-        self.written.fetch_add(count as u64, Ordering::SeqCst);
         self.look();
+    }
+
+    fn has_synced(&self) {
+        self.counts.note_sync();
     }
 }

@@ -7,9 +7,35 @@ use std::io;
 // How many bytes a client's word has at most.
 const MAX_WORD: usize = 64;
 
-/// The word of a hello. None of another line.
-pub fn word_of(alloc: Global, line: &[u8]) -> Result<Option<String>, AllocError> {
-    let Some(word) = line.strip_prefix(b"hello ") else {
+// What a line at the door begins with: that of a client, and that of one who asks how the store
+// stands.
+const HELLO: &[u8] = b"hello ";
+
+const STATUS: &[u8] = b"status ";
+
+/// What a line at the door asks for, with the word of who does.
+#[derive(Drop)]
+pub enum Request {
+    /// To be served.
+    Hello(String),
+    /// To be told how the store stands.
+    Status(String),
+}
+
+/// What a line at the door asks for; none, where it is another line.
+pub fn request_of(alloc: Global, line: &[u8]) -> Result<Option<Request>, AllocError> {
+    if let Some(word) = word_behind(alloc, line, HELLO)? {
+        return Ok(Some(Request::Hello(word)));
+    }
+    match word_behind(alloc, line, STATUS)? {
+        Some(word) => Ok(Some(Request::Status(word))),
+        None => Ok(None),
+    }
+}
+
+// The word of a line that begins so. None of another line.
+fn word_behind(alloc: Global, line: &[u8], begin: &[u8]) -> Result<Option<String>, AllocError> {
+    let Some(word) = line.strip_prefix(begin) else {
         return Ok(None);
     };
     match std::str::from_utf8(word) {

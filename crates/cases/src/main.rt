@@ -24,7 +24,7 @@ use system::System;
 // Asks what a line asks. Behind a script that is played through the store alone, what was told so
 // far is printed.
 fn ask(
-    rt: &(impl System + Sync),
+    rt: &impl System,
     bench: &mut Workbench,
     line: &str,
     told: &mut Told,
@@ -40,7 +40,7 @@ fn ask(
 
 // Asks what the lines of a text ask, one after another. An error is told with its line.
 fn ask_all(
-    rt: &(impl System + Sync),
+    rt: &impl System,
     name: &str,
     text: &str,
     told: &mut Told,
@@ -62,7 +62,7 @@ fn ask_all(
 
 // Plays the cases of each file that is named, and prints what is told behind each.
 fn play_files(
-    rt: &(impl System + Sync),
+    rt: &impl System,
     names: &str,
     told: &mut Told,
     out: &mut impl Write,
@@ -76,7 +76,7 @@ fn play_files(
 }
 
 // Plays the cases of the files that the file `index` names, and prints what is told.
-fn play_all(rt: &(impl System + Sync), out: &mut impl Write) -> io::Result<()> {
+fn play_all(rt: &impl System, out: &mut impl Write) -> io::Result<()> {
     let names = fs::read_to_string(rt, "index")?;
     let mut told = Told::new(rt.alloc())?;
     let played = play_files(rt, names.as_str(), &mut told, out);

@@ -11,30 +11,10 @@ use std::rt::{Clock, Files};
 use std::sync::Wait;
 
 /// Asks what a line asks, and tells what is answered.
-pub fn ask(
-    rt: &(impl System + Sync),
-    bench: &mut Workbench,
-    line: &str,
-    told: &mut Told,
-) -> io::Result<()> {
+pub fn ask(rt: &impl System, bench: &mut Workbench, line: &str, told: &mut Told) -> io::Result<()> {
     match questions::question(bench, line, told)? {
-        Some((word, rest)) => ask_of_threads(rt, bench, word, rest, told),
+        Some((word, rest)) => ask_of_files(rt, bench, word, rest, told),
         None => Ok(()),
-    }
-}
-
-// Asks a question of threads, or else another.
-fn ask_of_threads(
-    rt: &(impl System + Sync),
-    bench: &mut Workbench,
-    word: &str,
-    rest: &str,
-    told: &mut Told,
-) -> io::Result<()> {
-    match word {
-        "serve" => runs::serve(rt, bench, told),
-        "serve_ends" => runs::serve_ends(rt, bench, told),
-        _ => ask_of_files(rt, bench, word, rest, told),
     }
 }
 

@@ -1,5 +1,5 @@
 // Commands of the program that are carried out in a way of their own, and its command line.
-use crate::plays::runs::{Ran, play, to_show};
+use crate::plays::runs::{play, to_show};
 use crate::plays::through_store;
 use crate::plays::told::Told;
 use crate::plays::values::{not_understood, number};
@@ -10,7 +10,6 @@ use std::alloc::{AllocError, Global};
 use std::io::{self, ErrorKind, Write};
 use std::rt::Clock;
 use std::sync::Wait;
-use std::thread::Threads;
 
 /// Plays the script that was written through the store that threads share.
 pub fn play_shared(
@@ -24,43 +23,6 @@ pub fn play_shared(
     let (played, disk) = through_store::play(rt, disk, script.as_slice())?;
     bench.put_back(disk);
     played.ran.tell(bench.take_last(), told);
-    Ok(())
-}
-
-// Serves the script that was written: each of its clients runs in a thread of its own.
-fn served(
-    rt: &(impl Threads + Wait + Clock + AllocGlobal + Sync),
-    bench: &mut Workbench,
-) -> io::Result<Ran> {
-    let alloc = rt.alloc();
-    let disk = bench.take_disk(alloc)?;
-    let script = bench.take_script(alloc);
-    let (mut out, mut err) = (Vec::new(alloc), Vec::new(alloc));
-    let (status, closed) = boost::serve(rt, disk, script.as_slice(), false, &mut out, &mut err);
-    bench.put_back(closed.disk);
-    Ok(Ran { status, out, err })
-}
-
-/// Serves the script that was written, and tells what that answered.
-pub fn serve(
-    rt: &(impl Threads + Wait + Clock + AllocGlobal + Sync),
-    bench: &mut Workbench,
-    told: &mut Told,
-) -> io::Result<()> {
-    let ran = served(rt, bench)?;
-    ran.tell(bench.take_last(), told);
-    Ok(())
-}
-
-/// Serves the script that was written, and tells of what that answered the lines alone that are the
-/// same whatever the schedule: each client with its end, and what was refused Backlog, which is
-/// nothing.
-pub fn serve_ends(
-    rt: &(impl Threads + Wait + Clock + AllocGlobal + Sync),
-    bench: &mut Workbench,
-    told: &mut Told,
-) -> io::Result<()> {
-    served(rt, bench)?.tell_ends(told);
     Ok(())
 }
 

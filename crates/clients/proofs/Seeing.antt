@@ -1,9 +1,9 @@
 -- What a client has seen goes on with its steps.
-use Rattle.std.proofs.Common.{◌≡◌, ℕ, ◌+◌, List, [], ◌∷◌, ◌++◌, map, sym, ap, ◌∙◌, subst}
-use Rattle.std.proofs.Common.{append_assoc, ⊎_elim, inl, inr, Bool, true}
+use Rattle.std.proofs.Common.{◌≡◌, ◌⊎◌, ℕ, List, [], ◌∷◌, ◌++◌, sym, ap, ◌∙◌, subst}
+use Rattle.std.proofs.Common.{append_assoc, ⊎_elim, inl, inr, Bool, true, false}
 use Rattle.std.proofs.Common.{Result, Ok, Err}
 use Rattle.calls.specs.declared.refusal.Refusal.{Refusal}
-use Rattle.std.proofs.lemmas.List.{append-nil, map-append, replicate-append-replicate}
+use Rattle.std.proofs.lemmas.List.{append-nil}
 use Rattle.std.proofs.lemmas.List.Elements.{Contains-append_right}
 use Rattle.txn.specs.declared.actions.Action.{Action}
 use Rattle.txn.specs.declared.actions.BookStep.{BookStep}
@@ -16,7 +16,9 @@ use Rattle.clients.specs.declared.phase.Phase.{Phase}
 use Rattle.clients.specs.Calls.{IsClient, HasOwn, Moves, Acts, Does, Enters, IsEntering}
 use Rattle.clients.specs.Calls.{number_in}
 use Rattle.clients.specs.Calls.{back, backs, Hears, Decides, Waits}
-use Rattle.desks.specs.Seen.{step_of, IsSeen, Grows, Took, Steps}
+use Rattle.desks.specs.Seen.{IsSeen, Grows, Took, StepsBehind, Steps}
+use Rattle.desks.specs.TakenBack.{TakesBack}
+pub use Rattle.desks.proofs.Stepping.{grows_then, took_next}
 use Rattle.clients.specs.Known.{Known, known_of}
 
 ok_same : (m n : ℕ) → ◌≡◌ {A = Result ℕ Refusal} (Ok m) (Ok n) → m ≡ n
@@ -32,44 +34,26 @@ module _ {J : Type 0} (j : Ghosts J) where
     legal = legal;
   }
 
-  pub grows_then : (n : ℕ) (xs ys zs : List BookStep) (us vs : List Action) →
-      Grows j.origin n xs us ys → Grows j.origin n ys vs zs → Grows j.origin n xs (us ++ vs) zs
-  grows_then n xs ys zs us vs one two = record {
-    begins = (
-      one.begins.0 ++ two.begins.0,
-      sym (append_assoc xs one.begins.0 two.begins.0) ∙ ap (λ l. l ++ two.begins.0) one.begins.1 ∙
-          two.begins.1,
-    );
-    mine = two.mine ∙ ap (λ l. l ++ map (step_of n) vs) one.mine ∙
-        append_assoc (steps_of n xs) (map (step_of n) us) (map (step_of n) vs) ∙
-        ap (λ l. steps_of n xs ++ l) (sym (map-append (step_of n) us vs));
-    legal = two.legal;
-  }
-
-  -- one step more
-  pub took_next : (n : ℕ) (xs ys zs : List BookStep) (firsts : List Action) (last : Action) →
-      Grows j.origin n xs firsts ys → Took j.origin n ys [] last zs →
-      Took j.origin n xs firsts last zs
-  took_next n xs ys zs firsts last grows took = record {
-    grows = grows_then n xs ys zs firsts (last ∷ []) grows took.grows;
-    before = took.before;
-    ends = took.ends;
-  }
-
   -- ---- what a client knows
 
   pub moves_then : (a b c : Known) → Moves a b → Moves b c → Moves a c
   moves_then a b c one two =
       two ∙ ap (λ (x : Known). record x { seen = c.seen; phase = c.phase }) one
 
-  -- a step of the line is one of the client
-  pub acts_one : (old new : ClientState) (w : WatcherState) (d : DrawerState) (p q : Phase)
-      (action : Action) → Steps j.origin old action new →
-      Acts j.origin (known_of old w d p) [] action (known_of new w d q)
-  acts_one old new w d p q action steps = (
+  -- steps of the line are steps of the client
+  acts_behind : (old new : ClientState) (w : WatcherState) (d : DrawerState) (p q : Phase)
+      (firsts : List Action) (last : Action) → StepsBehind j.origin old firsts last new →
+      Acts j.origin (known_of old w d p) firsts last (known_of new w d q)
+  acts_behind old new w d p q firsts last steps = (
     ap (λ (c : ClientState). known_of c w d q) steps.0,
     steps.1,
   )
+
+  -- and so is one
+  pub acts_one : (old new : ClientState) (w : WatcherState) (d : DrawerState) (p q : Phase)
+      (action : Action) → Steps j.origin old action new →
+      Acts j.origin (known_of old w d p) [] action (known_of new w d q)
+  acts_one old new w d p q action steps = acts_behind old new w d p q [] action steps
 
   -- and one more
   pub acts_next : (a b c : Known) (firsts : List Action) (mid last : Action) →
@@ -78,9 +62,34 @@ module _ {J : Type 0} (j : Ghosts J) where
   acts_next a b c firsts mid last one two =
       let same : b.number ≡ a.number = ap (λ (x : Known). x.number) one.0 in (
         moves_then a b c one.0 two.0,
-        took_next a.number a.seen b.seen c.seen (firsts ++ mid ∷ []) last one.1.grows
+        took_next j a.number a.seen b.seen c.seen (firsts ++ mid ∷ []) last one.1.grows
             (subst (λ n. Took j.origin n b.seen [] last c.seen) same two.1),
       )
+
+  -- What takes the transaction back on the line takes that of the client back.
+  pub acts_back : (old new : ClientState) (w : WatcherState) (d : DrawerState) (p q : Phase)
+      (k : Known) (n : ℕ) (r : Result (Unit {0}) Refusal) → known_of old w d p ≡ k →
+      TakesBack j.origin old n r new → (count : ℕ) ×
+      (Acts j.origin k (backs n count ++ back n (Ok false) ∷ []) (Action.Ended n r)
+      (known_of new w d q)
+      ⊎ ((e : Refusal) × (r ≡ Err e) ×
+      Acts j.origin k (backs n count) (back n (Err e)) (known_of new w d q)))
+  acts_back old new w d p q k n r view back_to = (
+    back_to.0,
+    ⊎_elim
+        (λ done. inl (subst (λ m. Acts j.origin m (backs n back_to.0 ++ back n (Ok false) ∷ [])
+        (Action.Ended n r) (known_of new w d q)) view
+        (acts_behind old new w d p q (backs n back_to.0 ++ back n (Ok false) ∷ [])
+        (Action.Ended n r) done)))
+        (λ (refused : (e : Refusal) × (r ≡ Err e) ×
+        StepsBehind j.origin old (backs n back_to.0) (back n (Err e)) new). inr (
+          refused.0,
+          refused.1,
+          subst (λ m. Acts j.origin m (backs n back_to.0) (back n (Err refused.0))
+              (known_of new w d q)) view
+              (acts_behind old new w d p q (backs n back_to.0) (back n (Err refused.0)) refused.2),
+        )) back_to.1,
+  )
 
   -- ---- clients that meet
 
@@ -191,30 +200,6 @@ module _ {J : Type 0} (j : Ghosts J) where
   entered_number Phase.Closed old new n enters = absurd enters
   entered_number (Phase.Entered m) old new n enters = sym (ok_same n m enters.0)
   entered_number (Phase.Drawn m) old new n enters = sym enters.0
-
-  -- one call more is undone
-  pub undoes_next : (n : ℕ) (a b c : Known) (count : ℕ) → Moves a b →
-      Grows j.origin a.number a.seen (backs n count) b.seen →
-      Acts j.origin b [] (back n (Ok true)) c →
-      Moves a c × Grows j.origin a.number a.seen (backs n (count + 1)) c.seen
-  undoes_next n a b c count moves grows acts =
-      let same : b.number ≡ a.number = ap (λ (x : Known). x.number) moves in
-      let more = took_next a.number a.seen b.seen c.seen (backs n count) (back n (Ok true)) grows
-      (subst (λ m. Took j.origin m b.seen [] (back n (Ok true)) c.seen) same acts.1) in (
-        moves_then a b c moves acts.0,
-        subst (λ l. Grows j.origin a.number a.seen l c.seen)
-            (replicate-append-replicate count 1 (back n (Ok true))) more.grows,
-      )
-
-  pub undoes_last : (n : ℕ) (a b c : Known) (count : ℕ) (last : Action) → Moves a b →
-      Grows j.origin a.number a.seen (backs n count) b.seen → Acts j.origin b [] last c →
-      Acts j.origin a (backs n count) last c
-  undoes_last n a b c count last moves grows acts =
-      let same : b.number ≡ a.number = ap (λ (x : Known). x.number) moves in (
-        moves_then a b c moves acts.0,
-        took_next a.number a.seen b.seen c.seen (backs n count) last grows
-            (subst (λ m. Took j.origin m b.seen [] last c.seen) same acts.1),
-      )
 
 -- ---- waiting
 

@@ -1,9 +1,9 @@
 -- What a client knows behind a visit under the locks, for which its number was entered.
 use Rattle.std.proofs.Common.{◌≡◌, ℕ, [], ◌∷◌, ◌++◌, Result, Ok, Err, Option, None, Some, IfErr}
 use Rattle.std.proofs.Common.{OnOk, IfSome}
-use Rattle.std.proofs.Common.{IsNone, refl, sym, ap, ◌∙◌, subst}
+use Rattle.std.proofs.Common.{IsNone, refl, sym, ap, ◌∙◌, subst, List, false, ⊎_elim}
 use Rattle.std.specs.Prelude.{Contains}
-use Rattle.std.proofs.lemmas.List.Elements.{Contains-append_left, Contains-push}
+use Rattle.std.proofs.lemmas.List.Elements.{Contains-push}
 use Rattle.calls.specs.declared.refusal.Refusal.{Refusal}
 use Rattle.txn.specs.declared.actions.Action.{Action}
 use Rattle.group_commit.specs.Lines.{ClientState, mine_of, steps_of}
@@ -11,10 +11,12 @@ use Rattle.group_commit.specs.Marks.{WatcherState}
 use Rattle.group_commit.specs.Numbers.{DrawerState, with_number}
 use Rattle.desks.specs.declared.naming.Naming.{Ghosts}
 use Rattle.clients.specs.declared.phase.Phase.{Phase}
-use Rattle.desks.specs.Seen.{step_of, Steps}
+use Rattle.desks.specs.Seen.{step_of, Steps, StepsBehind}
+use Rattle.desks.specs.TakenBack.{back, backs, TakesBack}
+use Rattle.desks.proofs.Stepping.{entered_behind}
 use Rattle.clients.specs.Known.{Known, known_of}
 use Rattle.desks.specs.Owners.{entering, HasEntered}
-use Rattle.clients.specs.Calls.{Acts, Does, Enters, IsClient, HasOwn}
+use Rattle.clients.specs.Calls.{Acts, Does, Enters, IsClient, HasOwn, number_in}
 use Rattle.clients.proofs.Seeing.{acts_one, client_meets, does_next, enters_phase}
 
 module _ {J : Type 0} (j : Ghosts J) (old mid : Known) (n : ℕ)
@@ -44,6 +46,11 @@ module _ {J : Type 0} (j : Ghosts J) (old mid : Known) (n : ℕ)
   took_last own refused action its steps =
       took own refused (λ m. Phase.Closed) Phase.Closed action its steps (λ entered. refl)
 
+-- What holds anyway holds of what was accepted.
+pub always : {X E P : Type 0} → P → (r : Result X E) → OnOk r P
+always p (Ok x) = p
+always p (Err e) = tt
+
 -- ---- whose its transaction is
 
 -- A number that a client has entered is its own.
@@ -60,6 +67,13 @@ pub entered_own : {J : Type 0} (j : Ghosts J) (old mid : Known) (n : ℕ) →
     (p : Phase) → known_of line w d p ≡ mid → HasOwn p line d → HasEntered line n
 entered_own j old mid n enters line w d p view own =
     own_held line w d p mid n view (enters_phase j old.phase old mid n refl enters) own
+
+-- Behind the entering its transaction is entered.
+pub is_entered : {J : Type 0} (j : Ghosts J) (old mid : Known) (n : ℕ) →
+    Enters j.origin old.phase old (Ok n) mid → mid.phase ≡ Phase.Entered (number_in mid.phase)
+is_entered j old mid n enters =
+    let entered = enters_phase j old.phase old mid n refl enters in
+    entered ∙ ap (λ p. Phase.Entered (number_in p)) (sym entered)
 
 -- what a client has seen of itself says the same where it meets another one
 pub own_meets : (p : Phase) (old new : ClientState) (d e : DrawerState) →
@@ -83,11 +97,7 @@ module _ {J : Type 0} (j : Ghosts J) (old new : ClientState) (action : Action)
   own_on : (p : Phase) (d : DrawerState) → HasOwn p old d → HasOwn p new d
   own_on Phase.Closed d own = tt
   own_on (Phase.Drawn n) d own = own
-  own_on (Phase.Entered n) d own =
-      subst (λ k. Contains (mine_of new) (entering k n)) (sym same_number)
-      (subst (λ l. Contains l (entering old.number n)) (sym mine_then)
-      (Contains-append_left (mine_of old) (step_of old.number action ∷ [])
-      (entering old.number n) own))
+  own_on (Phase.Entered n) d own = entered_behind j old new [] action n steps own
 
   own_entered : (n : ℕ) → action ≡ Action.Enter n (Ok tt) → HasEntered new n
   own_entered n is =
@@ -132,7 +142,39 @@ module _ {J : Type 0} (j : Ghosts J) (old new : ClientState) (w : WatcherState) 
   pub steps_on : (action : Action) → Steps j.origin old action new → IsClient j new w d p
   steps_on action steps = steps_into p action steps (own_on j old new action steps p d is.own)
 
-  -- Where something was looked for, and a refusal is a step,
+  own_behind : (firsts : List Action) (last : Action) → StepsBehind j.origin old firsts last new →
+      (q : Phase) → HasOwn q old d → HasOwn q new d
+  own_behind firsts last steps Phase.Closed own = tt
+  own_behind firsts last steps (Phase.Drawn n) own = own
+  own_behind firsts last steps (Phase.Entered n) own =
+      entered_behind j old new firsts last n steps own
+
+  goes_on : (q : Phase) → HasOwn q old d → (firsts : List Action) (last : Action) →
+      StepsBehind j.origin old firsts last new → IsClient j new w d q
+  goes_on q own firsts last steps = client_meets j old new w d d p q new.seen is
+      steps.1.grows.legal steps.0 refl (own_behind firsts last steps q own)
+
+  -- Where its transaction was taken back, as far as that went, and it is in a phase then that was
+  -- its own before,
+  taken_to : (q : Phase) → HasOwn q old d → (n : ℕ) (r : Result (Unit {0}) Refusal) →
+      TakesBack j.origin old n r new → IsClient j new w d q
+  taken_to q own n r taken = ⊎_elim
+      (λ done. goes_on q own (backs n taken.0 ++ back n (Ok false) ∷ []) (Action.Ended n r) done)
+      (λ (refused : (e : Refusal) × (r ≡ Err e) ×
+      StepsBehind j.origin old (backs n taken.0) (back n (Err e)) new).
+      goes_on q own (backs n taken.0) (back n (Err refused.0)) refused.2) taken.1
+
+  -- as where it is still open,
+  pub taken_back : (n : ℕ) (r : Result (Unit {0}) Refusal) → TakesBack j.origin old n r new →
+      IsClient j new w d p
+  taken_back n r taken = taken_to p is.own n r taken
+
+  -- or closed,
+  pub taken_whole : (n : ℕ) (r : Result (Unit {0}) Refusal) → TakesBack j.origin old n r new →
+      IsClient j new w d Phase.Closed
+  taken_whole n r taken = taken_to Phase.Closed tt n r taken
+
+  -- where something was looked for, and a refusal is a step,
   pub found_client : {X E : Type 0} (r : Result X E) (act : E → Action) →
       OnOk r (new ≡ old) → IfErr r (λ e. Steps j.origin old (act e) new) → IsClient j new w d p
   found_client (Ok x) act same steps = stays same

@@ -1,7 +1,7 @@
 -- What each call of a client does to what the client knows.
 use Rattle.std.specs.Prelude.{◌≡◌, ℕ, ◌<◌, ◌≤◌, ◌^◌, ◌⊎◌, Bool, true, false, List, [], ◌∷◌}
 use Rattle.std.specs.Prelude.{◌++◌}
-use Rattle.std.specs.Prelude.{length, replicate, Contains, Option, Result, Ok, Err}
+use Rattle.std.specs.Prelude.{length, Contains, Option, Result, Ok, Err}
 use Rattle.calls.specs.declared.call.Call.{Call}
 use Rattle.calls.specs.declared.kind.Kind.{Kind}
 use Rattle.calls.specs.declared.reply.Reply.{Reply}
@@ -19,6 +19,7 @@ use Rattle.clients.specs.declared.phase.Phase.{Phase}
 use Rattle.clients.specs.declared.ticket.Ticket.{Ticket}
 use Rattle.desks.specs.Origins.{Origin}
 use Rattle.desks.specs.Seen.{IsSeen, Took}
+pub use Rattle.desks.specs.TakenBack.{back, backs}
 use Rattle.clients.specs.Known.{Known}
 use Rattle.desks.specs.Owners.{HasEntered}
 
@@ -148,19 +149,7 @@ ended_by (Err e) n = Phase.Entered n
 
 -- ---- aborting
 
-abbrev pub back : ℕ → Result Bool Refusal → Action
-back n r = Action.Back n r
-
--- so many calls were undone
-abbrev pub backs : ℕ → ℕ → List Action
-backs n count = replicate count (back n (Ok true))
-
 module _ (o : Origin) where
-  -- Calls are undone until none is left, or one is refused.
-  abbrev pub Undoes : ℕ → Known → Result (Unit {0}) Refusal → Known → Type 0
-  Undoes n old (Ok done) new = (count : ℕ) × Acts o old (backs n count) (back n (Ok false)) new
-  Undoes n old (Err e) new = (count : ℕ) × Acts o old (backs n count) (back n (Err e)) new
-
   -- An open transaction is aborted. One that was not entered takes no step.
   abbrev pub Aborts : Phase → Known → Result (Unit {0}) Refusal → Known → Type 0
   Aborts Phase.Closed old r new = ⊥

@@ -189,8 +189,8 @@ impl<'s, J: Naming, B: Coded> Client<'s, J, B> {
         match self.phase {
             Phase::Entered(number) => Ok(number),
             Phase::Drawn(number) => {
-                desk.enter(self.shared, &mut self.line, &mut self.drawer, number)?;
-                self.slot = desk.journal.slot(number);
+                let slot = desk.enter(self.shared, &mut self.line, &mut self.drawer, number)?;
+                self.slot = slot;
                 self.phase = Phase::Entered(number);
                 Ok(number)
             }

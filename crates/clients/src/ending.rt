@@ -1,11 +1,10 @@
 // Ends of a client's transactions: commits and aborts.
 ghost use Rattle.std.specs.Prelude.{◌≡◌, ℕ, [], ◌∷◌, ◌++◌, Ok, Err, ◌⊎◌, false, IfErr, IfSome};
-ghost use Rattle.std.specs.Prelude.{IsNone, IsSome, IsTrue, OnOk};
-ghost use Rattle.catalog.specs.Fours.{which_of};
+ghost use Rattle.std.specs.Prelude.{IsNone, IsSome, IsTrue};
 ghost use Rattle.calls.specs.declared.refusal.Refusal.{Refusal};
 ghost use Rattle.txn.specs.declared.actions.Action.{Action};
 ghost use Rattle.clients.specs.declared.phase.Phase.{Phase};
-ghost use Rattle.clients.specs.Calls.{IsOpen, IsEnded, Acts, Does, Undoes, Aborts, IsEntering};
+ghost use Rattle.clients.specs.Calls.{IsOpen, IsEnded, Acts, Does, Aborts, IsEntering};
 ghost use Rattle.clients.specs.Calls.{ended_by, placed, back, backs};
 
 use crate::client::{Client, close, each};
@@ -13,7 +12,7 @@ use crate::phase::Phase;
 use crate::ticket::Ticket;
 use calls::Refusal;
 use catalog::Four;
-use desks::{Desk, Handle, Held, Lock, Naming, Order, Quarter, ShelfDesk};
+use desks::{Desk, Handle, Held, HeldAll, Naming, Order};
 use records::Coded;
 use std::sync::Wait;
 
@@ -126,9 +125,10 @@ impl<'s, J: Naming, B: Coded> Client<'s, J, B> {
 
     /// Aborts the client's transaction: takes its calls back one by one, the newest first, and then
     /// ends it, so that its locks go. Call it only of a client with a transaction. It takes the
-    /// journal's lock twice for each call, once with that of the call's shelf, and twice more, once
-    /// with those of all shelves; none where the transaction has asked for nothing. It calls no
-    /// device.
+    /// locks of all shelves and then the journal's, each once, for the time that the undoing of its
+    /// calls takes, of which it has at most 1,024; once more where it has found no room for its
+    /// records behind those that wait, and has slept until the committer made some; none where the
+    /// transaction has asked for nothing. It calls no device.
     ///
     /// Backlog, NoMemory. The transaction stays open then. Once a call was taken back it can do
     /// nothing but be aborted again, which goes on from there.
@@ -162,7 +162,8 @@ impl<'s, J: Naming, B: Coded> Client<'s, J, B> {
         ended
     }
 
-    // Undoes a transaction's calls, and ends it.
+    // Undoes a transaction's calls and ends it, and waits for the committer before, where too many
+    // records wait.
     fn end<R: Wait>(&mut self, rt: &R, number: u64) -> Result<(), Refusal>
         requires { self.old.phase ≡ Phase.Entered number }
         ensures step { (count : ℕ) ×
@@ -172,16 +173,26 @@ impl<'s, J: Naming, B: Coded> Client<'s, J, B> {
             Acts J.origin self.old (backs number count) (back number (Err e)) self.new)) }
         ensures phase { self.new.phase ≡ ended_by result number }
     {
-        self.undo(rt, number)?;
-        self.shared.signal.let_drain(rt);
-        self.end_held(rt, number)
+        for _ in rt.forever() {
+            self.shared.signal.let_drain(rt);
+            if let Some(ended) = self.end_in_room(rt, number) {
+                return ended;
+            }
+        }
+        unreachable!()
     }
 
-    // Ends a transaction whose calls are all undone, under all locks.
-    fn end_held<R: Wait>(&mut self, rt: &R, number: u64) -> Result<(), Refusal>
+    // Undoes a transaction's calls and ends it, under the locks of all shelves and the journal's.
+    // None, with nothing changed, where its records have no room behind those that wait.
+    fn end_in_room<R: Wait>(&mut self, rt: &R, number: u64) -> Option<Result<(), Refusal>>
         requires { self.old.phase ≡ Phase.Entered number }
-        ensures step { Acts J.origin self.old [] (Action.Ended number result) self.new }
-        ensures phase { self.new.phase ≡ ended_by result number }
+        ensures step { IfSome result (λ r. (count : ℕ) ×
+            (Acts J.origin self.old (backs number count ++ back number (Ok false) ∷ [])
+            (Action.Ended number r) self.new
+            ⊎ ((e : Refusal) × (r ≡ Err e) ×
+            Acts J.origin self.old (backs number count) (back number (Err e)) self.new))) }
+        ensures phase { IfSome result (λ r. self.new.phase ≡ ended_by r number) }
+        ensures none { IsNone result → self.new ≡ self.old }
     {
         let (shelves, mutex) = (self.shelves, self.desk);
         let mut order = Order::new();
@@ -189,104 +200,30 @@ impl<'s, J: Naming, B: Coded> Client<'s, J, B> {
         let mut desk = mutex.lock(rt, &mut order);
         let slot = self.slot;
         let handle = Handle { number, slot };
-        desk.ended(shelves, self.shared, &mut self.line, &mut held, handle)?;
+        if !desk.has_room_to_abort(self.shared, handle) {
+            return None;
+        }
+        Some(self.end_held(&mut desk, &mut held, handle))
+    }
+
+    // Undoes its calls and ends it where the locks are held.
+    fn end_held(
+        &mut self,
+        desk: &mut Desk<J, B>,
+        held: &mut HeldAll<'_, J, B>,
+        handle: Handle,
+    ) -> Result<(), Refusal>
+        requires { self.old.phase ≡ Phase.Entered handle.number }
+        ensures step { (count : ℕ) ×
+            (Acts J.origin self.old (backs handle.number count ++
+            back handle.number (Ok false) ∷ []) (Action.Ended handle.number result) self.new
+            ⊎ ((e : Refusal) × (result ≡ Err e) × Acts J.origin self.old
+            (backs handle.number count) (back handle.number (Err e)) self.new)) }
+        ensures phase { self.new.phase ≡ ended_by result handle.number }
+    {
+        desk.abort(self.shelves, self.shared, &mut self.line, held, handle)?;
         close(&mut self.phase, &mut self.touched);
         Ok(())
-    }
-
-    // Undoes a transaction's calls, until none is left.
-    fn undo<R: Wait>(&mut self, rt: &R, number: u64) -> Result<(), Refusal>
-        requires { self.old.phase ≡ Phase.Entered number }
-        ensures step { Undoes J.origin number self.old result self.new }
-        ensures phase { self.new.phase ≡ self.old.phase }
-    {
-        self.upheld();
-        for _ in rt.forever() {
-            if !self.back(rt, number)? {
-                return Ok(());
-            }
-        }
-        unreachable!()
-    }
-
-    // Undoes a transaction's newest call.
-    fn back<R: Wait>(&mut self, rt: &R, number: u64) -> Result<bool, Refusal>
-        requires { self.old.phase ≡ Phase.Entered number }
-        ensures step { Acts J.origin self.old [] (back number result) self.new }
-        ensures phase { self.new.phase ≡ self.old.phase }
-    {
-        self.shared.signal.let_drain(rt);
-        for _ in rt.forever() {
-            match self.find_newest(rt, number) {
-                Err(answer) => return answer,
-                Ok(at) => {
-                    if let Some(answer) = self.back_at(rt, number, at) {
-                        return answer;
-                    }
-                }
-            }
-        }
-        unreachable!()
-    }
-
-    // The number of the collection of the newest call, or what the undoing answers without one.
-    fn find_newest<R: Wait>(&mut self, rt: &R, number: u64) -> Result<u8, Result<bool, Refusal>>
-        requires { self.old.phase ≡ Phase.Entered number }
-        ensures ok { OnOk result (self.new ≡ self.old) }
-        ensures step { IfErr result (λ r. Acts J.origin self.old [] (back number r)
-            self.new) }
-        ensures phase { self.new.phase ≡ self.old.phase }
-    {
-        let mutex = self.desk;
-        let mut desk = mutex.lock(rt, &mut Order::new());
-        let slot = self.slot;
-        desk.find_newest(self.shared, &mut self.line, Handle { number, slot })
-    }
-
-    // Undoes the newest call, under the locks of the shelf of the number and of the journal. None
-    // where it is on another collection.
-    fn back_at<R: Wait>(&mut self, rt: &R, number: u64, at: u8) -> Option<Result<bool, Refusal>>
-        requires { self.old.phase ≡ Phase.Entered number }
-        ensures step { IfSome result (λ r. Acts J.origin self.old [] (back number r)
-            self.new) }
-        ensures none { IsNone result → self.new ≡ self.old }
-        ensures phase { self.new.phase ≡ self.old.phase }
-    {
-        let shelves = self.shelves;
-        if at % 4 == 0 {
-            return self.back_on(rt, &shelves.first, number, at);
-        }
-        if at % 4 == 1 {
-            return self.back_on(rt, &shelves.second, number, at);
-        }
-        if at % 4 == 2 {
-            return self.back_on(rt, &shelves.third, number, at);
-        }
-        self.back_on(rt, &shelves.fourth, number, at)
-    }
-
-    // Undoes it under the lock of this shelf, which is that of the number, and then the journal's.
-    fn back_on<Q: Quarter, R: Wait>(
-        &mut self,
-        rt: &R,
-        lock: &Lock<ShelfDesk<J, B, Q>>,
-        number: u64,
-        at: u8,
-    ) -> Option<Result<bool, Refusal>>
-        requires place { which_of at ≡ Q.which }
-        requires own { self.old.phase ≡ Phase.Entered number }
-        ensures step { IfSome result (λ r. Acts J.origin self.old [] (back number r)
-            self.new) }
-        ensures none { IsNone result → self.new ≡ self.old }
-        ensures phase { self.new.phase ≡ self.old.phase }
-    {
-        let (shelves, mutex) = (self.shelves, self.desk);
-        let mut order = Order::new();
-        let mut held = lock.lock(rt, &mut order);
-        let mut desk = mutex.lock(rt, &mut order);
-        let slot = self.slot;
-        let handle = Handle { number, slot };
-        desk.back(shelves, self.shared, &mut self.line, &mut held, handle, at)
     }
 
     // The shelves on which the transaction asked for something.

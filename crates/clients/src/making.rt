@@ -28,7 +28,7 @@ impl<'s, J: Naming, B: Coded> Client<'s, J, B> {
                 Ok(Ok(place)) => return Ok(Ticket { place }),
                 Ok(Err(refusal)) => return Err(refusal),
                 Err(Miss::NoRoom) => return Err(Refusal::Full),
-                Err(_) => self.shared.signal.await_room(rt),
+                Err(Miss::NoRoomYet) => self.shared.signal.await_room(rt),
             }
         }
         unreachable!()

@@ -1,10 +1,8 @@
 // Why a step is not taken yet.
 
-/// Why a step was not taken under the locks.
+/// Why a step was not taken under the locks: there was no room for what it adds.
 #[derive(Clone, Copy)]
 pub(crate) enum Miss {
-    /// The collection has another number than the one that was told.
-    Elsewhere,
     /// What it adds fits behind a checkpoint, perhaps.
     NoRoomYet,
     /// What it adds does not fit.

@@ -8,3 +8,5 @@ pub mod Touching
 pub mod ShelfSteps
 pub mod Settling
 pub mod Unsettled
+pub mod Stepping
+pub mod Undoing

@@ -3,6 +3,7 @@ use Rattle.calls.specs.declared.format.Format.{Format}
 use Rattle.std.specs.Prelude.{◌≡◌, ℕ, List, [], map, Contains, Option, Some, None}
 use Rattle.std.specs.List.{AllByRecursion}
 use Rattle.calls.specs.Contents.{Collection}
+use Rattle.calls.specs.Transactions.{Entry}
 use Rattle.records.specs.declared.record.Record.{Record}
 use Rattle.records.specs.Records.{IsRecord}
 use Rattle.records.specs.declared.block.Image.{Image}
@@ -65,6 +66,12 @@ module _ (format : Format) (start : List Collection) (wear : ℕ) (records : Lis
 abbrev pub AreReported : List Report → List BookStep → Type 0
 AreReported reports steps = (x : BookStep) → Contains steps x → (n client : ℕ) →
     transaction_of x.action ≡ Some n → x.client ≡ Some client → IsReported reports client n
+
+-- What contracts see under the journal's lock: the names of the collections, by number, and what
+-- the live transactions asked for and did not undo.
+pub record DeskState : Type 0 where
+  pub names : List (List ℕ)
+  pub entries : List (ℕ × Entry)
 
 -- As many drawers were made as clients, and who entered a number drew it.
 pub record IsDrawn (maker : MakerState) (seat : lines.BookState) : Type 0 where

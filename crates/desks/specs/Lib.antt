@@ -5,5 +5,6 @@ pub mod Origins
 pub mod Owners
 pub mod Seen
 pub mod Statuses
+pub mod TakenBack
 pub mod Told
 pub mod Touches

@@ -40,7 +40,11 @@ module _ (o : Origin) where
     pub before : List BookStep
     pub ends : new ≡ before ++ step_of n last ∷ []
 
+  -- The client took these steps of its own, the last one last.
+  abbrev pub StepsBehind : ClientState → List Action → Action → ClientState → Type 0
+  StepsBehind old firsts last new =
+      (new ≡ seeing old new.seen) × Took old.number old.seen firsts last new.seen
+
   -- The client took one step.
   abbrev pub Steps : ClientState → Action → ClientState → Type 0
-  Steps old action new =
-      (new ≡ seeing old new.seen) × Took old.number old.seen [] action new.seen
+  Steps old action new = StepsBehind old [] action new

@@ -7,7 +7,7 @@ ghost use Rattle.catalog.specs.Fours.{Which, pick};
 ghost use Rattle.steps.specs.Shelves.{ShelfState};
 ghost use Rattle.txn.specs.declared.actions.Action.{Action};
 ghost use Rattle.txn.specs.Books.{opened, CutAnswers};
-ghost use Rattle.txn.specs.Shelved.{book_state, IsBook, IsJournal};
+ghost use Rattle.txn.specs.Shelved.{book_state, entered, IsBook, IsJournal};
 ghost use Rattle.group_commit.specs.Accords.{AccordState};
 ghost use Rattle.images.specs.Gathers.{nothing_gathered};
 ghost use Rattle.group_commit.specs.Lines.{mine_of, stepped, seeing};
@@ -95,12 +95,16 @@ impl<J: Naming, B: Coded> Drop for Desk<J, B> {
 
 impl<J: Naming, B: Coded> Model for Desk<J, B> {
     ghost use Rattle.std.specs.Prelude.{◌≡◌};
-    ghost use Rattle.desks.specs.Desks.{IsDrawn};
+    ghost use Rattle.catalog.specs.Woven.{names_in};
+    ghost use Rattle.desks.specs.Desks.{DeskState, IsDrawn};
     ghost use Rattle.desks.specs.Touches.{IsJournalDesk};
 
-    ghost Value = { Unit {0} };
+    ghost Value = { DeskState };
 
-    ghost view = { λ d. tt };
+    ghost view = { λ d. record {
+      names = names_in (B.Names.labels d.journal.names);
+      entries = d.journal.transactions.entries;
+    } };
 
     ghost invariant = { λ d.
         IsJournalDesk ⟦<J as Naming>⟧ B.meaning B.making B.collections B.whole B.fits d.journal
@@ -163,8 +167,9 @@ impl<J: Naming, B: Coded> Desk<J, B> {
         }
     }
 
-    /// Makes a number live, which the client's drawer drew: a step of the client. The journal's
-    /// side learns what the drawer drew. It calls no device.
+    /// Makes a number live, which the client's drawer drew: a step of the client. It answers the
+    /// slot of its transaction, for its handle. The journal's side learns what the drawer drew. It
+    /// calls no device.
     ///
     /// The refusals of `Journal::enter`, which leave the journal as before. They are noted.
     pub fn enter(
@@ -173,11 +178,11 @@ impl<J: Naming, B: Coded> Desk<J, B> {
         me: &mut ClientSeat,
         drawer: &mut Drawer,
         number: u64,
-    ) -> Result<(), Refusal>
+    ) -> Result<usize, Refusal>
         requires line { me.old.table ≡ J.line }
         requires drawer { (drawer.old.table ≡ J.numbers) × (drawer.old.number ≡ me.old.number) }
         requires drawn { Contains drawer.old.drawn number }
-        ensures step { Steps J.origin me.old (Action.Enter number result) me.new }
+        ensures step { Steps J.origin me.old (Action.Enter number (entered result)) me.new }
         ensures drawer { drawer.new ≡ drawer.old }
     {
         shared.numbers.report(&mut self.maker, drawer);

@@ -27,11 +27,11 @@ use undo_log::Handle;
 
 impl<J: Naming, B: Coded> Desk<J, B> {
     /// Ends a transaction whose calls are all undone, under the locks of all shelves: a step of the
-    /// client. It calls no device.
+    /// client.
     ///
     /// The refusals of `Journal::prepare_end`, which leave journal and shelves as before. They are
     /// noted.
-    pub fn ended(
+    pub(crate) fn ended(
         &mut self,
         shelves: &Shelves<J, B>,
         shared: &Shared<J>,

@@ -9,7 +9,8 @@ use std::sync::atomic::{AtomicBool, AtomicU64, Ordering};
 const MANY: usize = 256;
 
 // From so many on clients wait for the committer before their next step, if one is at work: each of
-// 64 clients that had the lock meanwhile adds a record, and so none is refused Backlog.
+// 64 clients that had the lock meanwhile adds a record, for which an abort leaves room, and so none
+// is refused Backlog.
 const TOO_MANY: usize = MAX_PENDING / 2;
 
 /// Wakes a store's committer, tells it when no more commits come, and has clients wait where they

@@ -6,7 +6,7 @@
 
 use fizgaloms::{
     AllocGlobal, Attempt, Call, Client, Clock, Kind, MIN_AREA, NOTHING_FOUND, Naming, Patience,
-    Refusal, Reply, StoreFile, Transaction, Wait, Work, keep, keep_waiting, number_of,
+    Refusal, Reply, StoreFile, Ticket, Transaction, Wait, Work, keep, keep_waiting, number_of,
     open_or_format, open_or_make, transact, value_of_number,
 };
 use std::fs::File;
@@ -155,15 +155,21 @@ fn do_all<J: Naming, R: Wait + Clock + AllocGlobal>(
     Ok(())
 }
 
+// Each counts at its end, and answers that with the ticket of the last count, which is kept: and so
+// is all that the thread has done.
 impl Work for Part {
-    type Output = Result<(u64, u64), Refusal>;
+    ghost use Rattle.fizgaloms.specs.Works.{IsKeptSo};
+
+    type Output = Result<((u64, u64), Ticket), Refusal>;
+
+    ghost says = { λ _ _ _ answer known. IsKeptSo known answer };
 
     fn work<J: Naming, R: Wait + Clock + AllocGlobal>(
         &self,
         rt: &R,
         client: &mut Client<'_, J>,
         thread: usize,
-    ) -> Result<(u64, u64), Refusal> {
+    ) -> Result<((u64, u64), Ticket), Refusal> {
         for name in ["jobs", "done", "failed"] {
             open_or_make(rt, client, name, Kind::Set)?;
         }
@@ -176,8 +182,8 @@ impl Work for Part {
             Part::Counting => {}
         }
         let (done, _ticket) = transact(rt, client, &Step::<R>::Count("done"))?;
-        let (failed, _ticket) = transact(rt, client, &Step::<R>::Count("failed"))?;
-        Ok((done, failed))
+        let (failed, ticket) = keep(rt, client, &Step::<R>::Count("failed"))?;
+        Ok(((done, failed), ticket))
     }
 }
 
@@ -191,7 +197,7 @@ fn do_part<R: Threads + Wait + Clock + Files<File = File> + AllocGlobal + Sync>(
     let (answers, _closed) = fizgaloms::run(rt, disk, &part, threads);
     let mut counts = (0, 0);
     for answer in answers? {
-        counts = answer?;
+        counts = answer?.0;
     }
     Ok(counts)
 }

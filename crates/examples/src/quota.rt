@@ -1,9 +1,10 @@
 //! Quotas of a thousand customers, in a store in a file: four threads spend from them, and from the
 //! same customer's side by side. What a customer has left never falls below zero, and nobody waits
 //! for anybody. This file is a whole example, to be copied.
+ghost use Rattle.fizgaloms.specs.Works.{IsKeptSo};
 
 use fizgaloms::{
-    AllocGlobal, Attempt, Call, Client, Clock, Kind, Naming, Refusal, Reply, StoreFile,
+    AllocGlobal, Attempt, Call, Client, Clock, Kind, Naming, Refusal, Reply, StoreFile, Ticket,
     Transaction, Wait, Work, keep, open_or_format, open_or_make, transact,
 };
 use std::fs::File;
@@ -19,8 +20,8 @@ const LIMIT: u64 = 100;
 
 const THREADS: usize = 4;
 
-// Each thread asks every tenth customer's quota so often, for so much.
-const ASKS: u64 = 3;
+// Each thread asks so often, of every tenth customer's quota in turn, for so much.
+const ASKS: u64 = 300;
 
 const ASKED: u64 = 40;
 
@@ -60,38 +61,46 @@ enum Part {
     Spending,
 }
 
+// Each answers how much it changed, with the ticket of its last commit, which is kept.
 impl Work for Part {
-    type Output = Result<u64, Refusal>;
+    ghost use Rattle.fizgaloms.specs.Works.{IsKeptSo};
+
+    type Output = Result<(u64, Ticket), Refusal>;
+
+    ghost says = { λ _ _ _ answer known. IsKeptSo known answer };
 
     fn work<J: Naming, R: Wait + Clock + AllocGlobal>(
         &self,
         rt: &R,
         client: &mut Client<'_, J>,
         _thread: usize,
-    ) -> Result<u64, Refusal> {
+    ) -> Result<(u64, Ticket), Refusal> {
         open_or_make(rt, client, "quotas", Kind::Quotas)?;
         match self {
-            Part::Filling => Ok(keep(rt, client, &Change::Fill)?.0),
+            Part::Filling => keep(rt, client, &Change::Fill),
             Part::Spending => spend(rt, client),
         }
     }
 }
 
+// What an ask of this number spends from.
+fn spending(ask: u64) -> Change {
+    Change::Spend(ask.wrapping_mul(10) % CUSTOMERS)
+}
+
 // Asks, and waits for the last answer to be kept. How many asks were granted.
-fn spend<J: Naming, R: Wait + Clock>(rt: &R, client: &mut Client<'_, J>) -> Result<u64, Refusal> {
+fn spend<J: Naming, R: Wait + Clock>(
+    rt: &R,
+    client: &mut Client<'_, J>,
+) -> Result<(u64, Ticket), Refusal>
+    ensures { IsKeptSo client.new result }
+{
     let mut granted = 0u64;
-    let mut last = None;
-    for _ in 0..ASKS {
-        for customer in (0..CUSTOMERS).step_by(10) {
-            let (some, ticket) = transact(rt, client, &Change::Spend(customer))?;
-            granted = granted.wrapping_add(some);
-            last = Some(ticket);
-        }
+    for ask in 1..ASKS {
+        granted = granted.wrapping_add(transact(rt, client, &spending(ask))?.0);
     }
-    if let Some(ticket) = last {
-        client.wait(rt, &ticket)?;
-    }
-    Ok(granted)
+    let (last, ticket) = keep(rt, client, &spending(ASKS))?;
+    Ok((granted.wrapping_add(last), ticket))
 }
 
 // Has threads do a part on the disk, and answers what they changed, and the disk.
@@ -104,7 +113,7 @@ fn do_part<R: Threads + Wait + Clock + AllocGlobal + Sync>(
     let (answers, closed) = fizgaloms::run(rt, disk, &part, threads);
     let mut changed = 0u64;
     for some in answers? {
-        changed = changed.wrapping_add(some?);
+        changed = changed.wrapping_add(some?.0);
     }
     Ok((changed, closed.disk))
 }

@@ -18,6 +18,7 @@ use Rattle.replay.specs.Journals.{StandsFor}
 use Rattle.desks.specs.Origins.{Origin}
 use Rattle.desks.specs.Seen.{IsHistory, step_of}
 use Rattle.clients.specs.Known.{Known, SeenState}
+use Rattle.clients.specs.declared.ticket.Ticket.{Ticket}
 use Rattle.store.specs.Closing.{Closes, WasKept}
 use Rattle.desks.specs.declared.naming.Naming as namings
 use Rattle.txn.specs.Books.{BookState}
@@ -38,6 +39,15 @@ pub record HasCommitted (known : Known) (place : ℕ) : Type 0 where
 -- the client was told that all commits and makings up to the place are kept
 abbrev pub WasToldKept : Known → ℕ → Type 0
 WasToldKept known place = (x : Raised) × Contains known.counts x × (place ≤ x.count)
+
+-- The client has committed at the place, as the last step that it has seen, and was told that all
+-- up to there are kept.
+abbrev pub HasKept : Known → ℕ → Type 0
+HasKept known place = HasCommitted known place × WasToldKept known place
+
+-- So it is with the place of the ticket that is answered. Of a refusal nothing is said.
+abbrev pub IsKeptSo : {A E : Type 0} → Known → Result (A × Ticket) E → Type 0
+IsKeptSo known answer = IfOk answer (λ done. HasKept known done.1.place)
 
 -- What the client knew it knows still: it is the same one, it has seen as much and more, and no
 -- count that it had loaded is gone.

@@ -30,6 +30,15 @@ const ALL_BUT: u64 = 95;
 // How often a checkpoint that finds no memory is tried again once no more commits come.
 const LAST_TRIES: u32 = 100;
 
+/// A checkpoint that was taken.
+#[derive(Clone, Copy)]
+pub(crate) struct Taken {
+    /// How long it took.
+    took: Duration,
+    /// How full it leaves the store, in hundredths.
+    full: u64,
+}
+
 /// A store whose commits threads bring to the disk.
 pub(crate) trait Commits {
     /// Brings what clients commit to the disk until the store's signal says that no more comes, and
@@ -42,18 +51,17 @@ pub(crate) trait Commits {
     /// Refused early where the disk fails, and where a checkpoint makes no room.
     fn commit_all<R: Wait + Clock>(&self, rt: &R, checkpoints: &Checkpoints) -> Result<(), Refusal>;
 
-    /// Takes the checkpoints that are asked for, until no more are; none then. One that finds no
-    /// memory is tried again later. Who waits for room goes on behind each. Behind one that leaves
-    /// the store so full that it is to be told, it answers how full, in hundredths, and is to be
-    /// called again.
+    /// Takes the checkpoint that is asked for next, and tells of it; none once no more are asked
+    /// for. One that finds no memory is tried again later, and one that makes no room is passed
+    /// over. Who waits for room goes on behind each. It is to be called again behind one.
     ///
     /// Fault behind one at which the disk failed, and then those that are asked for are to be
     /// answered still: it is to be called again.
-    fn checkpoint_all<R: Wait + Clock>(
+    fn next_checkpoint<R: Wait + Clock>(
         &self,
         rt: &R,
         checkpoints: &Checkpoints,
-    ) -> Result<Option<u64>, Refusal>;
+    ) -> Result<Option<Taken>, Refusal>;
 
     /// The committer takes no more turns: who waits until something is kept is told Lost.
     fn stop<R: Wait>(&self, rt: &R);
@@ -77,26 +85,29 @@ impl<D: Disk, J: Naming> Commits for Store<D, J> {
         commit_until_over(rt, &mut self.committer(rt), self.signal(), checkpoints)
     }
 
-    fn checkpoint_all<R: Wait + Clock>(
+    fn next_checkpoint<R: Wait + Clock>(
         &self,
         rt: &R,
         checkpoints: &Checkpoints,
-    ) -> Result<Option<u64>, Refusal> {
+    ) -> Result<Option<Taken>, Refusal> {
         let mut checkpointer = self.checkpointer(rt);
         for _ in rt.forever() {
             let Some(asked) = checkpoints.next(rt) else {
                 return Ok(None);
             };
             let wishes = self.signal().wishes();
+            let start = Instant::now(rt);
             let made = checkpoint(rt, &mut checkpointer, self.signal(), checkpoints);
             checkpoints.answer(asked, made.is_ok());
             self.signal().grant(wishes);
             if made == Err(Refusal::Fault) {
                 return Err(Refusal::Fault);
             }
-            let full = checkpointer.fill(rt).full;
-            if made.is_ok() && full >= NEARLY {
-                return Ok(Some(full));
+            if made.is_ok() {
+                return Ok(Some(Taken {
+                    took: elapsed(rt, start),
+                    full: checkpointer.fill(rt).full,
+                }));
             }
         }
         unreachable!()
@@ -135,8 +146,8 @@ fn keep_committing<S: Commits, W: Work, R: Wait + Clock + AllocGlobal>(
     checkpoints.end();
 }
 
-// Takes checkpoints until no more are asked for. A fault of the disk is noted, and the work is
-// told; so it is where the store is nearly full, and where it is all but full.
+// Takes checkpoints until no more are asked for. The work is told of each, and where it leaves the
+// store nearly full, and all but full. A fault of the disk is noted, and the work is told.
 fn keep_checkpointing<S: Commits, W: Work, R: Wait + Clock + AllocGlobal>(
     rt: &R,
     store: &S,
@@ -145,10 +156,11 @@ fn keep_checkpointing<S: Commits, W: Work, R: Wait + Clock + AllocGlobal>(
 ) {
     let mut warned = 0;
     for _ in rt.forever() {
-        match store.checkpoint_all(rt, checkpoints) {
+        match store.next_checkpoint(rt, checkpoints) {
             Ok(None) => return,
-            Ok(Some(full)) => {
-                let due = if full >= ALL_BUT { ALL_BUT } else { NEARLY };
+            Ok(Some(Taken { took, full })) => {
+                work.checkpoint_taken(rt, took);
+                let due = due_warning(full);
                 if due > warned {
                     work.nearly_full(rt, full);
                 }
@@ -156,6 +168,17 @@ fn keep_checkpointing<S: Commits, W: Work, R: Wait + Clock + AllocGlobal>(
             }
             Err(refusal) => end_keeping(rt, checkpoints, work, refusal),
         }
+    }
+}
+
+// From how many hundredths on a store that is so full is to be told; 0 where it is not.
+fn due_warning(full: u64) -> u64 {
+    if full >= ALL_BUT {
+        ALL_BUT
+    } else if full >= NEARLY {
+        NEARLY
+    } else {
+        0
     }
 }
 
@@ -288,7 +311,7 @@ impl Keeping {
 }
 
 /// Starts the threads in which all that clients of the store commit is brought to the disk
-/// (`Commits::commit_all`), and checkpoints are taken (`Commits::checkpoint_all`). They end behind
+/// (`Commits::commit_all`), and checkpoints are taken (`Commits::next_checkpoint`). They end behind
 /// `Commits::end`, which is to be called on each way out of the scope.
 ///
 /// NoMemory where no thread can be started.

@@ -38,7 +38,7 @@ impl From<io::Error> for FileError {
 /// is to be read, for a folder and for a FIFO. InUse where another run has it, or has just put
 /// another file in its place.
 pub fn open(
-    rt: &impl Files<File = File>,
+    rt: &(impl Files<File = File> + AllocGlobal),
     path: &str,
     access: Access,
 ) -> Result<LockedFile, FileError> {
@@ -53,7 +53,7 @@ pub fn open(
         lock_to_read(&file)?;
     }
     check_is_same(&file, &fs::metadata(rt, path)?)?;
-    Ok(LockedFile::new(file))
+    Ok(LockedFile::new(rt.alloc(), file))
 }
 
 // Opens a file by these options, with a number above those of the standard streams.

@@ -42,6 +42,7 @@ mod making;
 mod new_file;
 mod opening;
 mod pause;
+mod read_ahead;
 mod running;
 mod seeking;
 mod streams;

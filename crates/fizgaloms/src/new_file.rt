@@ -195,7 +195,7 @@ fn folder_of(path: &str) -> &str {
 }
 
 // Opens a device, or what a link would lead to.
-fn begin_in_place<R: Files<File = File>>(
+fn begin_in_place<R: Files<File = File> + AllocGlobal>(
     rt: &R,
     path: String,
 ) -> Result<(Making, LockedFile), FileError> {
@@ -208,16 +208,19 @@ fn begin_in_place<R: Files<File = File>>(
         unfinished: None,
         old: None,
     };
-    Ok((making, LockedFile::new(file)))
+    Ok((making, LockedFile::new(rt.alloc(), file)))
 }
 
 // Takes the file of the name for this run, and makes it where it is not there.
-fn take_unfinished(rt: &impl Files<File = File>, name: &str) -> Result<LockedFile, FileError> {
+fn take_unfinished(
+    rt: &(impl Files<File = File> + AllocGlobal),
+    name: &str,
+) -> Result<LockedFile, FileError> {
     let mut how = File::options();
     how.read(true).write(true).create(true).mode(OWNER_MODE);
     let file = open_by(rt, &how, name)?;
     lock_alone(&file)?;
-    let file = LockedFile::new(file);
+    let file = LockedFile::new(rt.alloc(), file);
     check_is_same(file.file(), &rt.symlink_metadata(name)?)?;
     Ok(file)
 }

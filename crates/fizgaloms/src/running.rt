@@ -19,6 +19,7 @@ use std::marker::Brand;
 use std::rt::Clock;
 use std::sync::Wait;
 use std::thread::{self, Threads};
+use std::time::Duration;
 use store::{Client, Naming, Opened, Seen, Store};
 
 /// What each of a program's threads does with a store.
@@ -49,6 +50,10 @@ pub trait Work {
     /// can be told to end. It is to return soon: where it is Full or NoMemory, who waits until
     /// something is kept is told Lost behind it.
     fn keeping_ended<R: Wait + AllocGlobal>(&self, _rt: &R, _refusal: Refusal) {}
+
+    /// A checkpoint became the store, and took so long: zero where the clock cannot be read. It is
+    /// called by the thread that takes checkpoints, while the threads work, and is to return soon.
+    fn checkpoint_taken<R: Wait + AllocGlobal>(&self, _rt: &R, _took: Duration) {}
 
     /// The store is nearly full, or all but full: `full` hundredths, from 80 on, of what calls may
     /// fill that add something (`Fill::full`). It is called once from 80 on and once from 95 on, by

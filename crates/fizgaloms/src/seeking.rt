@@ -2,7 +2,7 @@
 ghost use Rattle.std.specs.Prelude.{◌≡◌, ℕ, OnOk, IfOk};
 ghost use Rattle.clients.specs.declared.phase.Phase.{Phase};
 ghost use Rattle.fizgaloms.specs.Transactions.{Transacts, Keeps, GoesThrough, IsKept};
-ghost use Rattle.fizgaloms.specs.Works.{HasCommitted, WasToldKept};
+ghost use Rattle.fizgaloms.specs.Works.{HasCommitted, IsKeptSo};
 
 use crate::pause::Pause;
 use crate::transacting::{is_passing, try_once};
@@ -67,8 +67,7 @@ pub fn keep_waiting<T: Transaction, J: Naming, R: Wait + Clock>(
     patience: Patience,
 ) -> Result<(T::Output, Ticket), Refusal>
     ensures closed { OnOk result (client.new.phase ≡ Phase.Closed) }
-    ensures committed { IfOk result (λ done. HasCommitted client.new done.1.place) }
-    ensures kept { IfOk result (λ done. WasToldKept client.new done.1.place) }
+    ensures kept { IsKeptSo client.new result }
     ensures keeps { (bound : ℕ) × Keeps J.origin (T.refuses transaction.now)
         (T.says transaction.now) bound client.old result client.new }
 {
@@ -86,8 +85,7 @@ fn keep_sought<T: Transaction, J: Naming, R: Wait + Clock>(
     patience: Patience,
 ) -> Result<(T::Output, Ticket), Refusal>
     ensures closed { OnOk result (client.new.phase ≡ Phase.Closed) }
-    ensures committed { IfOk result (λ done. HasCommitted client.new done.1.place) }
-    ensures kept { IfOk result (λ done. WasToldKept client.new done.1.place) }
+    ensures kept { IsKeptSo client.new result }
     ensures keeps { (bound : ℕ) × IsKept J.origin (T.refuses transaction.now)
         (T.says transaction.now) bound client.old result client.new }
 {

@@ -7,7 +7,7 @@ ghost use Rattle.clients.specs.declared.phase.Phase.{Phase};
 ghost use Rattle.fizgaloms.specs.Transactions.{Tried, TakesBack, Begins, IsNotBegun, Stops};
 ghost use Rattle.fizgaloms.specs.Transactions.{IsRefused, IsPassing, Ran, Transacts, Keeps};
 ghost use Rattle.fizgaloms.specs.Transactions.{GoesThrough, IsKept};
-ghost use Rattle.fizgaloms.specs.Works.{HasCommitted, WasToldKept, KnowsStill};
+ghost use Rattle.fizgaloms.specs.Works.{HasCommitted, IsKeptSo, KnowsStill};
 
 use crate::pause::Pause;
 use calls::Refusal;
@@ -104,8 +104,7 @@ pub fn keep<T: Transaction, J: Naming, R: Wait + Clock>(
     transaction: &T,
 ) -> Result<(T::Output, Ticket), Refusal>
     ensures closed { OnOk result (client.new.phase ≡ Phase.Closed) }
-    ensures committed { IfOk result (λ done. HasCommitted client.new done.1.place) }
-    ensures kept { IfOk result (λ done. WasToldKept client.new done.1.place) }
+    ensures kept { IsKeptSo client.new result }
     ensures keeps { Keeps J.origin (T.refuses transaction.now)
         (T.says transaction.now) (2 ^ 32 - 1) client.old result client.new }
 {
@@ -122,8 +121,7 @@ pub fn keep_within<T: Transaction, J: Naming, R: Wait + Clock>(
     attempts: u32,
 ) -> Result<(T::Output, Ticket), Refusal>
     ensures closed { OnOk result (client.new.phase ≡ Phase.Closed) }
-    ensures committed { IfOk result (λ done. HasCommitted client.new done.1.place) }
-    ensures kept { IfOk result (λ done. WasToldKept client.new done.1.place) }
+    ensures kept { IsKeptSo client.new result }
     ensures keeps { Keeps J.origin (T.refuses transaction.now)
         (T.says transaction.now) attempts client.old result client.new }
 {
@@ -141,8 +139,7 @@ fn keep_tried<T: Transaction, J: Naming, R: Wait + Clock>(
     attempts: u32,
 ) -> Result<(T::Output, Ticket), Refusal>
     ensures closed { OnOk result (client.new.phase ≡ Phase.Closed) }
-    ensures committed { IfOk result (λ done. HasCommitted client.new done.1.place) }
-    ensures kept { IfOk result (λ done. WasToldKept client.new done.1.place) }
+    ensures kept { IsKeptSo client.new result }
     ensures keeps { IsKept J.origin (T.refuses transaction.now)
         (T.says transaction.now) attempts client.old result client.new }
 {

@@ -18,6 +18,9 @@ pub trait Watch {
 
     /// So many bytes were written.
     fn has_written(&self, count: usize);
+
+    /// A sync was done.
+    fn has_synced(&self);
 }
 
 /// A file whose calls are watched, by one who needs no hold of the disk that it is.
@@ -40,6 +43,13 @@ impl<'a, F, W: Watch> Watched<'a, F, W> {
             self.watch.failed(error);
         }
         done
+    }
+
+    // Tells of a sync that has come back, and that it was done, or why not.
+    fn told_synced(&self, done: io::Result<()>) -> io::Result<()> {
+        self.told(done)?;
+        self.watch.has_synced();
+        Ok(())
     }
 }
 
@@ -65,12 +75,12 @@ impl<F: DeviceFile, W: Watch> DeviceFile for Watched<'_, F, W> {
     fn sync(&mut self) -> io::Result<()> {
         self.watch.begins();
         let done = self.file.sync();
-        self.told(done)
+        self.told_synced(done)
     }
 
     fn sync_all(&mut self) -> io::Result<()> {
         self.watch.begins();
         let done = self.file.sync_all();
-        self.told(done)
+        self.told_synced(done)
     }
 }

@@ -27,7 +27,7 @@ use Rattle.gate_block.specs.Row.{block, row, IsRow, part}
 use Rattle.gate_block.specs.Area.{base_of, size_of, offset_of, has_failed, LeavesElsewhere}
 use Rattle.catalog.specs.Holdings.{AreNamed}
 use Rattle.catalog.specs.Making.{names_of, AreDistinct}
-use Rattle.catalog.specs.Places.{IsWithin}
+use Rattle.catalog.specs.Places.{IsWithin, Reaches}
 use Rattle.catalog.specs.Meaning.{catalog_meaning, catalog_making}
 use Rattle.records.specs.declared.record.Record.{Record}
 use Rattle.records.specs.Records.{spelling}
@@ -39,7 +39,7 @@ use Rattle.steps.proofs.LiveNumbers.{nobody}
 use Rattle.records.specs.Packings.{joined, AreWhole}
 use Rattle.records.specs.Wholes.{IsWhole, body_of}
 use Rattle.records.specs.declared.block.Image.{Image}
-use Rattle.images.specs.Images.{TellsState, IsPackedImage}
+use Rattle.images.specs.Images.{TellsState, IsPacked, IsPackedImage}
 use Rattle.images.specs.LiveRecords.{live_records}
 use Rattle.checkpoint.specs.declared.laying.Laying.{Laying}
 use Rattle.checkpoint.specs.Imaging.{IsTooLong, IsBeingLaid, bodies_of, left_of}
@@ -61,11 +61,15 @@ use Rattle.recovery.specs.Heads.{HasNoHeader}
 use Rattle.recovery.specs.Formatting.{IsRoomFor, IsHeadOf, IsMaking, IsShut}
 use Rattle.recovery.specs.Openings.{IsRead, IsFindRefusal}
 use Rattle.recovery.specs.Copies.{IsFilledWith, IsStoreOf, IsImageOf, SpellsImageOf, IsCopyOf}
-use Rattle.recovery.specs.Copies.{IsTooLarge, IsCopyAnswer, SpellsCopyOf, copied_as}
+use Rattle.recovery.specs.Copies.{IsTooLarge, IsCopyAnswer, IsSettleRefusal, SpellsCopyOf}
+use Rattle.recovery.specs.Copies.{copied_as}
+use Rattle.recovery.specs.declared.editing.Edit.{Edit}
+use Rattle.recovery.specs.Edits.{edited, CanBeEdited, RefusesEdit, RefusesEdits, IsUneditable}
+use Rattle.recovery.specs.Kept.{Refuses, OrStarved}
+use Rattle.recovery.proofs.EditLemmas.{edited_each, edited_few}
 use Rattle.recovery.specs.Finding.{IsStored}
 use Rattle.recovery.specs.Surveys.{image_len}
 use Rattle.replay.proofs.ImageItems.{told_reads}
-use Rattle.replay.proofs.ImageNames.{accepted_named, repeats_named}
 use Rattle.recovery.proofs.FormatLemmas.{header_there, root_there, picks_first, shut, rest_kept}
 use Rattle.recovery.proofs.OpenLemmas.{byte_same}
 use Rattle.recovery.proofs.Stores.{one_held, stands_for_one}
@@ -129,27 +133,27 @@ all_later f g later [] short = tt
 all_later f g later (x ∷ s) short =
     (content_later f g later x.content short.0, all_later f g later s short.1)
 
--- the machine that was found, in a later format, with the blocks that are its image
-abbrev pub spells : (f : Format) (bytes : List ℕ) (area : Area) (state undone : State)
-    (next count : ℕ)
+-- the state that was found, with the edits made, in a later format, with the blocks that are its
+-- image
+abbrev pub spells : (f : Format) (bytes : List ℕ) (area : Area) (edits : List Edit)
+    (state undone : State) (next count : ℕ)
     (undoing : List Record) (blocks : List (Vec ℕ Global)) →
     IsStored bytes area state next count → Undo state undoing undone →
     AllByRecursion IsUndoRecord undoing →
     IsUpheld catalog_meaning catalog_making AreShort
     (IsSoundState catalog_meaning catalog_making) undone →
-    (later : Allows undone.format f) →
-    IsPackedImage (λ v. v) next (resting f undone.now undone.wear) blocks →
-    SpellsImageOf f bytes blocks
-spells f bytes area state undone next count undoing blocks stored undo marks upheld later packed =
+    (later : Allows undone.format f) → CanBeEdited edits undone.now →
+    AreNamed (edited edits undone.now) → AreDistinct (names_of (edited edits undone.now)) →
+    IsPacked (IsImage f next undone.wear (edited edits undone.now) [] []) blocks →
+    SpellsImageOf f bytes edits blocks
+spells f bytes area edits state undone next count undoing blocks stored undo marks upheld later can
+    named distinct packed =
     let read = stored.loaded.is_read in
     let rs : List Record = records_in packed.groups in
-    let is_image : IsImage f next undone.wear undone.now [] [] rs =
-    rested_image next (resting f undone.now undone.wear) rs packed.tells refl refl in
-    let named = repeats_named undoing state undone undo.leads
-    (accepted_named stored.version (records_in stored.loaded.blocks) next state count
-    read.accepted) in
     let worn = upheld.unworn in
     let low : undone.wear ≤ 2 ^ 61 + 65536 = omega (arith, worn) in
+    let few = edited_few edits undone.now in
+    let few_names : length (names_of undone.now) ≤ 256 = upheld.few_names in
     record {
       image = packed.groups;
       is_image_of = record {
@@ -167,12 +171,16 @@ spells f bytes area state undone next count undoing blocks stored undo marks uph
         undone = undone;
         marks = marks;
         undo = undo;
+        can = can;
         later = subst (λ g. Allows g f) (repeats_format undoing state undone undo.leads) later;
-        is_image = is_image;
+        is_image = packed.tells;
         good = packed.good;
-        accepted = image_accepted f next undone.wear undone.now rs is_image
-            (all_later undone.format f later undone.now upheld.spells) named.0 named.1
-            upheld.few_names upheld.reached low;
+        accepted = image_accepted f next undone.wear (edited edits undone.now) rs packed.tells
+            (edited_each (HoldsShort f) edits undone.now
+            (all_later undone.format f later undone.now upheld.spells))
+            named distinct
+            (omega (arith, few, few_names))
+            (edited_each (λ k. Reaches k undone.wear) edits undone.now upheld.reached) low;
         packed = packed.packed.0;
         not_empty = packed.packed.1;
       };
@@ -191,6 +199,13 @@ pub some_blocks : (next : ℕ) (s : State) (blocks : List (Vec ℕ Global)) →
 some_blocks next s blocks packed none =
     let groups : packed.groups ≡ [] = no_groups blocks packed.groups packed.whole none in
     let is = packed.tells.is_image.is in
+    absurd (omega (arith, ap length (sym (ap joined groups) ∙ is)))
+
+pub some_settled : (f : Format) (next wear : ℕ) (xs : List Collection)
+    (blocks : List (Vec ℕ Global)) → IsPacked (IsImage f next wear xs [] []) blocks → blocks ≢ []
+some_settled f next wear xs blocks packed none =
+    let groups : packed.groups ≡ [] = no_groups blocks packed.groups packed.whole none in
+    let is = packed.tells.is in
     absurd (omega (arith, ap length (sym (ap joined groups) ∙ is)))
 
 -- ---- the format of a copy
@@ -213,9 +228,10 @@ copied_fits Format.One area large =
 -- ---- the store that holds it
 
 -- what a store stands for is what its records lead to, once all that was live is undone
-old_content : (f : Format) (old : List ℕ) (image : List (List Record)) (of : IsImageOf f old image)
+old_content : (f : Format) (old : List ℕ) (edits : List Edit) (image : List (List Record))
+    (of : IsImageOf f old edits image)
     (content : List Collection) → StandsFor old content → of.undone.now ≡ content
-old_content f old image of content stood =
+old_content f old edits image of content stood =
     let holds : Holds old of.blocks =
     accepted_holds of.version of.size old of.blocks of.next of.state of.count of.header
     of.is_read.row_is of.is_read.good of.is_read.accepted in
@@ -224,12 +240,12 @@ old_content f old image of content stood =
     of.undone of.undo.leads of.undo.over (undo_acts of.undoing of.marks) old content stood
     (ap records_in (one_held old of.blocks stood.blocks holds stood.holds))
 
-module _ (f : Format) (old : List ℕ) (image : List (List Record)) (of : IsImageOf f old image)
-    (version : Format) (allowed : Allows version f) (size : ℕ)
+module _ (f : Format) (old : List ℕ) (edits : List Edit) (image : List (List Record))
+    (of : IsImageOf f old edits image) (version : Format) (allowed : Allows version f) (size : ℕ)
     (bytes : List ℕ) (header : IsHeader version size bytes)
     (row_is : IsRow (map spelling image) (area_in_use size bytes)) where
   abbrev rested : State
-  rested = resting f of.undone.now of.undone.wear
+  rested = resting f (edited edits of.undone.now) of.undone.wear
 
   pub there : AreAccepted version (records_in image) of.next rested 0
   there = accepted_on f version (records_in image) of.next rested 0 of.accepted of.good allowed
@@ -249,24 +265,26 @@ module _ (f : Format) (old : List ℕ) (image : List (List Record)) (of : IsImag
   }
 
   -- so does the one that holds the image alone
-  is_there : (other : List Collection) → StandsFor bytes other → of.undone.now ≡ other
+  is_there : (other : List Collection) → StandsFor bytes other →
+      edited edits of.undone.now ≡ other
   is_there other stands =
       content_behind version (records_in image) of.next rested 0 there [] rested refl refl refl
       bytes
       other stands (ap records_in (one_held bytes image stands.blocks holds stands.holds))
 
-  pub stands : (content : List Collection) → StandsFor old content → StandsFor bytes content
+  pub stands : (content : List Collection) → StandsFor old content →
+      StandsFor bytes (edited edits content)
   stands content stood =
       let one = stands_for_one bytes sound in
       subst (StandsFor bytes) (sym (is_there one.0 one.1) ∙
-      old_content f old image of content stood)
+      ap (edited edits) (old_content f old edits image of content stood))
       one.1
 
 -- the blocks that spell it are written
-pub copied : (f : Format) (old : List ℕ) (area : ℕ) (blocks : List (Vec ℕ Global))
-    (bytes : List ℕ) → SpellsCopyOf f old area blocks → IsStoreOf f area (bodies_of blocks) bytes →
-    IsCopyOf old area bytes
-copied f old area blocks bytes spelt store =
+pub copied : (f : Format) (old : List ℕ) (edits : List Edit) (area : ℕ)
+    (blocks : List (Vec ℕ Global)) (bytes : List ℕ) → SpellsCopyOf f old edits area blocks →
+    IsStoreOf f area (bodies_of blocks) bytes → IsCopyOf old edits area bytes
+copied f old edits area blocks bytes spelt store =
     let image = spelt.spells.image in
     let is : IsStoreOf f area (map spelling image) bytes =
     subst (λ b. IsStoreOf f area b bytes) (whole_bodies blocks image spelt.spells.whole) store in
@@ -279,15 +297,17 @@ copied f old area blocks bytes spelt store =
       is_image_of = spelt.spells.is_image_of;
       format_is = spelt.format_is;
       is_store = is;
-      sound = sound f old image spelt.spells.is_image_of f (allows_self f) area bytes is.header row;
-      stands = stands f old image spelt.spells.is_image_of f (allows_self f) area bytes is.header
-          row;
+      sound = sound f old edits image spelt.spells.is_image_of f (allows_self f) area bytes
+          is.header row;
+      stands = stands f old edits image spelt.spells.is_image_of f (allows_self f) area bytes
+          is.header row;
     }
 
 -- they need more room than there is
-pub too_large : (f : Format) (old : List ℕ) (area : ℕ) (blocks : List (Vec ℕ Global)) →
-    SpellsImageOf f old blocks → IsTooLong area blocks → IsTooLarge old area
-too_large f old area blocks spelt long = record {
+pub too_large : (f : Format) (old : List ℕ) (edits : List Edit) (area : ℕ)
+    (blocks : List (Vec ℕ Global)) → SpellsImageOf f old edits blocks → IsTooLong area blocks →
+    IsTooLarge old edits area
+too_large f old edits area blocks spelt long = record {
   format = f;
   image = spelt.image;
   is_image_of = spelt.is_image_of;
@@ -481,20 +501,20 @@ making_weaker P Q old c f (inr (inr made)) = inr (inr (f c made))
 -- what is made of the image is a copy, where the old disk read true
 pub making_copy : {D : Type 0} (seen : D → List ℕ) (moment : D → ℕ)
     (left_since : D → ℕ → List ℕ → Type 0) (is_honest : Type 0) (f : Format) (old : List ℕ)
-    (area : ℕ)
+    (edits : List Edit) (area : ℕ)
     (blocks : List (Vec ℕ Global)) (before after : D) →
-    (is_honest → SpellsCopyOf f old area blocks) →
+    (is_honest → SpellsCopyOf f old edits area blocks) →
     LeavesOnly moment left_since before after
     (IsMaking (IsStoreOf f area (bodies_of blocks)) (seen before)) →
     LeavesOnly moment left_since before after
-    (IsMaking (λ bytes. is_honest → IsCopyOf old area bytes) (seen before))
-making_copy seen moment left_since is_honest f old area blocks before after spelt run =
+    (IsMaking (λ bytes. is_honest → IsCopyOf old edits area bytes) (seen before))
+making_copy seen moment left_since is_honest f old edits area blocks before after spelt run =
     weaker moment left_since before after
     (IsMaking (IsStoreOf f area (bodies_of blocks)) (seen before))
-    (IsMaking (λ bytes. is_honest → IsCopyOf old area bytes) (seen before)) run
+    (IsMaking (λ bytes. is_honest → IsCopyOf old edits area bytes) (seen before)) run
     (λ c made. making_weaker (IsStoreOf f area (bodies_of blocks))
-    (λ bytes. is_honest → IsCopyOf old area bytes) (seen before) c
-    (λ bytes store true_read. copied f old area blocks bytes (spelt true_read) store) made)
+    (λ bytes. is_honest → IsCopyOf old edits area bytes) (seen before) c
+    (λ bytes store true_read. copied f old edits area blocks bytes (spelt true_read) store) made)
 
 -- a disk that nobody touched
 pub unread : {D : Type 0} (seen : D → List ℕ) (may_leave : D → List ℕ → Type 0) (moment : D → ℕ)
@@ -508,18 +528,107 @@ unread seen may_leave moment left_since disk only_now = record {
 }
 
 pub copy_refusal : (is_room risen rises no_head : Type 0) (is_damaged : ℕ → Type 0)
-    (is_too_large : Type 0) (e : Refusal) → is_room → (risen → rises) →
-    IsFindRefusal risen no_head is_damaged e →
-    IsCopyAnswer is_room rises no_head is_damaged is_too_large (Err e)
-copy_refusal is_room risen rises no_head is_damaged is_too_large Refusal.NoMemory room f why =
-    (room, tt)
-copy_refusal is_room risen rises no_head is_damaged is_too_large Refusal.Fault room f why =
-    (room, f why)
-copy_refusal is_room risen rises no_head is_damaged is_too_large Refusal.NotAStore room f why =
-    (room, why)
-copy_refusal is_room risen rises no_head is_damaged is_too_large (Refusal.Damaged place) room f why
-    = (room, why)
-copy_refusal is_room risen rises no_head is_damaged is_too_large e room f why = absurd why
+    (is_uneditable : Refusal → Type 0) (is_too_large : Type 0) (e : Refusal) → is_room →
+    (risen → rises) → IsSettleRefusal risen no_head is_damaged is_uneditable e →
+    IsCopyAnswer is_room rises no_head is_damaged is_uneditable is_too_large (Err e)
+copy_refusal is_room risen rises no_head is_damaged is_uneditable is_too_large Refusal.NoMemory room
+    f why = (room, tt)
+copy_refusal is_room risen rises no_head is_damaged is_uneditable is_too_large Refusal.Fault room f
+    why = (room, f why)
+copy_refusal is_room risen rises no_head is_damaged is_uneditable is_too_large Refusal.NotAStore
+    room f why = (room, why)
+copy_refusal is_room risen rises no_head is_damaged is_uneditable is_too_large
+    (Refusal.Damaged place) room f why = (room, why)
+copy_refusal is_room risen rises no_head is_damaged is_uneditable is_too_large
+    Refusal.NoSuchCollection room f why = (room, why)
+copy_refusal is_room risen rises no_head is_damaged is_uneditable is_too_large Refusal.BadName room
+    f why = (room, why)
+copy_refusal is_room risen rises no_head is_damaged is_uneditable is_too_large Refusal.TooLong room
+    f why = (room, why)
+copy_refusal is_room risen rises no_head is_damaged is_uneditable is_too_large Refusal.NameTaken
+    room f why = (room, why)
+copy_refusal is_room risen rises no_head is_damaged is_uneditable is_too_large e room f why =
+    absurd why
+
+-- why a store could not be read, it could not be settled either
+pub find_refusal : (risen no_head : Type 0) (is_damaged : ℕ → Type 0)
+    (is_uneditable : Refusal → Type 0) (e : Refusal) → IsFindRefusal risen no_head is_damaged e →
+    IsSettleRefusal risen no_head is_damaged is_uneditable e
+find_refusal risen no_head is_damaged is_uneditable Refusal.NoSuchCollection why = absurd why
+find_refusal risen no_head is_damaged is_uneditable Refusal.BadName why = absurd why
+find_refusal risen no_head is_damaged is_uneditable Refusal.TooLong why = absurd why
+find_refusal risen no_head is_damaged is_uneditable Refusal.NameTaken why = absurd why
+find_refusal risen no_head is_damaged is_uneditable e why = why
+
+-- the content of what was found, and that edits of it are refused
+module _ (bytes : List ℕ) (area : Area) (state undone : State) (next count : ℕ)
+    (undoing : List Record) (stored : IsStored bytes area state next count)
+    (undo : Undo state undoing undone) (marks : AllByRecursion IsUndoRecord undoing) where
+  found_row : IsRow (map spelling stored.loaded.blocks) (area_in_use (size_of area) bytes)
+  found_row = subst (λ b. IsRow (map spelling stored.loaded.blocks) (part b (size_of area) bytes))
+      stored.picks stored.loaded.is_read.row_is
+
+  abbrev found_holds : Holds bytes stored.loaded.blocks
+  found_holds = accepted_holds stored.version (size_of area) bytes stored.loaded.blocks next state
+      count stored.header found_row stored.loaded.is_read.good stored.loaded.is_read.accepted
+
+  found_sound : IsSound bytes
+  found_sound = record {
+    blocks = stored.loaded.blocks;
+    holds = found_holds;
+    good = stored.loaded.is_read.good;
+    next = next;
+    end = state;
+    count = count;
+    accepted = stored.loaded.is_read.accepted;
+  }
+
+  found_content : (content : List Collection) → StandsFor bytes content → undone.now ≡ content
+  found_content content stood = content_behind stored.version (records_in stored.loaded.blocks) next
+      state count stored.loaded.is_read.accepted undoing undone undo.leads undo.over
+      (undo_acts undoing marks) bytes content stood
+      (ap records_in (one_held bytes stored.loaded.blocks stood.blocks found_holds stood.holds))
+
+  uneditable : (edits : List Edit) (e : Refusal) → RefusesEdits edits undone.now e →
+      IsUneditable bytes edits e
+  uneditable edits e why = record {
+    sound = found_sound;
+    refused = λ content stood. subst (λ c. RefusesEdits edits c e) (found_content content stood)
+        why;
+  }
+
+module _ (risen no_head : Type 0) (is_damaged : ℕ → Type 0) (is_uneditable : Refusal → Type 0) where
+  one_edit : (edit : Edit) (names : List (List ℕ)) (e : Refusal) → RefusesEdit edit names e →
+      is_uneditable e → IsSettleRefusal risen no_head is_damaged is_uneditable e
+  one_edit (Edit.Without name) names Refusal.NoSuchCollection why is = is
+  one_edit (Edit.Without name) names e why is = absurd why
+  one_edit (Edit.Rename from to) names Refusal.NoSuchCollection why is = is
+  one_edit (Edit.Rename from to) names Refusal.BadName why is = is
+  one_edit (Edit.Rename from to) names Refusal.TooLong why is = is
+  one_edit (Edit.Rename from to) names Refusal.NameTaken why is = is
+  one_edit (Edit.Rename from to) names e why is = absurd why.1
+
+  edits_settle : (P : Refusal → Type 0) (e : Refusal) → OrStarved P e →
+      (P e → IsSettleRefusal risen no_head is_damaged is_uneditable e) →
+      IsSettleRefusal risen no_head is_damaged is_uneditable e
+  edits_settle P Refusal.NoMemory why f = tt
+  edits_settle P e why f = f why
+
+pub edit_refusal : (is_honest risen no_head : Type 0) (is_damaged : ℕ → Type 0)
+    (bytes : List ℕ) (area : Area) (state undone : State) (next count : ℕ) (undoing : List Record) →
+    (is_honest → IsStored bytes area state next count) → Undo state undoing undone →
+    AllByRecursion IsUndoRecord undoing → (edits : List Edit) (names : List (List ℕ)) →
+    names_of undone.now ≡ names → (e : Refusal) → OrStarved (Refuses edits names) e →
+    IsSettleRefusal risen no_head is_damaged (λ r. is_honest → IsUneditable bytes edits r) e
+edit_refusal is_honest risen no_head is_damaged bytes area state undone next count undoing stored
+    undo marks edits names are e why =
+    edits_settle risen no_head is_damaged (λ r. is_honest → IsUneditable bytes edits r)
+    (Refuses edits names) e why
+    (λ refuses. let here = refuses undone.now are in
+    one_edit risen no_head is_damaged (λ r. is_honest → IsUneditable bytes edits r) here.edit
+    (names_of (edited here.before undone.now)) e here.refused
+    (λ true_read. uneditable bytes area state undone next count undoing (stored true_read) undo
+    marks edits e here))
 
 -- ---- how long an image is
 

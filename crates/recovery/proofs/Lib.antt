@@ -6,6 +6,7 @@ pub mod FindLemmas
 pub mod Stores
 pub mod OpenedStores
 pub mod RefusalLemmas
+mod EditLemmas
 mod CopyLemmas
 mod FlipLemmas
 mod UpgradeLemmas

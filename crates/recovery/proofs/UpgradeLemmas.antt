@@ -303,7 +303,7 @@ module _ (old mid : List ℕ) (m : State) (n : ℕ) (area : Area)
   accepted_is = subst (λ (b : BookState (List Collection)). AreAccepted Format.Two rs b.next
       (resting Format.Two b.state.now b.state.wear) 0) o.book_is accepted
 
-  abbrev pub of : IsImageOf Format.Two old packed.groups
+  abbrev pub of : IsImageOf Format.Two old [] packed.groups
   of = record {
     version = o.version;
     size = size_of area;
@@ -318,6 +318,7 @@ module _ (old mid : List ℕ) (m : State) (n : ℕ) (area : Area)
     undone = u;
     marks = o.marks;
     undo = o.undo;
+    can = tt;
     later = allows_second o.state.format;
     is_image = image_is;
     good = packed.good;
@@ -331,7 +332,7 @@ module _ (old mid : List ℕ) (m : State) (n : ℕ) (area : Area)
     version = o.version;
     size = size_of area;
     header = o.header;
-    large = too_large Format.Two old (size_of area) blocks
+    large = too_large Format.Two old [] (size_of area) blocks
         (record { image = packed.groups; is_image_of = of; whole = packed.whole }) long;
   }
 
@@ -368,10 +369,10 @@ module _ (old mid : List ℕ) (m : State) (n : ℕ) (area : Area)
         header = λ version size is. flipped_header other mid new far flipped version size
             (header_same version (base_of area) size (size_of area) old mid
             (far_off (base_of area) (size_of area) old o.picks) o.elsewhere is);
-        sound = image_sound Format.Two old image of o.version (allows_second o.version)
+        sound = image_sound Format.Two old [] image of o.version (allows_second o.version)
             (size_of area) new there used;
         format = refl;
-        stands = image_stands Format.Two old image of o.version (allows_second o.version)
+        stands = image_stands Format.Two old [] image of o.version (allows_second o.version)
             (size_of area) new there used;
       }
 

@@ -21,7 +21,9 @@ use Rattle.replay.specs.Steps.{State}
 use Rattle.replay.specs.Reading.{IsSound, AreAccepted}
 use Rattle.replay.specs.Undoing.{Undo, IsUndoRecord}
 use Rattle.recovery.specs.Formatting.{IsHeadOf}
-use Rattle.recovery.specs.Openings.{IsRead, IsOpenRefusal}
+use Rattle.recovery.specs.declared.editing.Edit.{Edit}
+use Rattle.recovery.specs.Edits.{edited, CanBeEdited}
+use Rattle.recovery.specs.Openings.{IsRead, IsFindRefusal}
 
 -- ---- bytes that are written
 
@@ -43,9 +45,11 @@ pub record IsStoreOf (version : Format) (area : ℕ) (bodies : List (List ℕ)) 
 -- ---- the settled content of a store
 
 -- The blocks are an image in the format of what the store in these bytes holds once all that was
--- live is undone: the collections with their items, and the marks of the next number and of the
--- wear, those of an opening. No transaction is live in it. Each block is as full as it can be.
-pub record IsImageOf (format : Format) (bytes : List ℕ) (image : List (List Record)) : Type 0 where
+-- live is undone and the edits are made, which all can be: the collections with their items, and
+-- the marks of the next number and of the wear, those of an opening. No transaction is live in it.
+-- Each block is as full as it can be.
+pub record IsImageOf (format : Format) (bytes : List ℕ) (edits : List Edit)
+    (image : List (List Record)) : Type 0 where
   -- the head of the store
   pub version : Format
   pub size : ℕ
@@ -61,21 +65,23 @@ pub record IsImageOf (format : Format) (bytes : List ℕ) (image : List (List Re
   pub undone : State
   pub marks : AllByRecursion IsUndoRecord undoing
   pub undo : Undo state undoing undone
-  -- the image of what it leads to, and that it is read as that
+  -- the image of what it leads to, with the edits made, and that it is read as that
+  pub can : CanBeEdited edits undone.now
   pub later : Allows state.format format
-  pub is_image : IsImage format next undone.wear undone.now [] [] (records_in image)
+  pub is_image : IsImage format next undone.wear (edited edits undone.now) [] []
+      (records_in image)
   pub good : AreRecords None (records_in image)
-  pub accepted : AreAccepted format (records_in image) next (resting format undone.now undone.wear)
-      0
+  pub accepted : AreAccepted format (records_in image) next
+      (resting format (edited edits undone.now) undone.wear) 0
   -- its blocks
   pub packed : ArePacked image
   pub not_empty : AllByRecursion (λ records. 0 < length records) image
 
 -- The blocks are whole, and spell such an image.
-pub record SpellsImageOf (format : Format) (bytes : List ℕ) (blocks : List (Vec ℕ Global)) : Type
-    0 where
+pub record SpellsImageOf (format : Format) (bytes : List ℕ) (edits : List Edit)
+    (blocks : List (Vec ℕ Global)) : Type 0 where
   pub image : List (List Record)
-  pub is_image_of : IsImageOf format bytes image
+  pub is_image_of : IsImageOf format bytes edits image
   pub whole : AreWhole blocks image
 
 -- ---- a copy
@@ -86,35 +92,54 @@ copied_as Format.Two area = Format.Two
 copied_as Format.One area = cond (nat_lt (max_area Format.One) area) Format.Two Format.One
 
 -- The blocks spell the image that a copy with areas of this size has, which is of this format.
-pub record SpellsCopyOf (format : Format) (bytes : List ℕ) (area : ℕ)
+pub record SpellsCopyOf (format : Format) (bytes : List ℕ) (edits : List Edit) (area : ℕ)
     (blocks : List (Vec ℕ Global)) : Type 0 where
-  pub spells : SpellsImageOf format bytes blocks
+  pub spells : SpellsImageOf format bytes edits blocks
   pub format_is : format ≡ copied_as spells.is_image_of.state.format area
 
--- The bytes are a copy of the store in the old ones, with areas of this size: the first area is in
--- use, and holds an image of the settled content of the old store, with no journal behind it. They
--- are sound, and stand for the content that the old ones stand for.
-pub record IsCopyOf (old : List ℕ) (area : ℕ) (bytes : List ℕ) : Type 0 where
+-- The bytes are a copy of the store in the old ones, with these edits and areas of this size: the
+-- first area is in use, and holds an image of the settled content of the old store with the edits
+-- made, and no journal behind it. They are sound, and stand for what the edits leave of the content
+-- that the old ones stand for.
+pub record IsCopyOf (old : List ℕ) (edits : List Edit) (area : ℕ) (bytes : List ℕ) : Type 0 where
   pub format : Format
   pub image : List (List Record)
-  pub is_image_of : IsImageOf format old image
+  pub is_image_of : IsImageOf format old edits image
   pub format_is : format ≡ copied_as is_image_of.state.format area
   pub is_store : IsStoreOf format area (map spelling image) bytes
   pub sound : IsSound bytes
-  pub stands : (content : List Collection) → StandsFor old content → StandsFor bytes content
+  pub stands : (content : List Collection) → StandsFor old content →
+      StandsFor bytes (edited edits content)
 
--- The image of the settled content does not fit in an area of this size, with a closed gate behind
--- it.
-pub record IsTooLarge (old : List ℕ) (area : ℕ) : Type 0 where
+-- The image of the settled content with the edits made does not fit in an area of this size, with a
+-- closed gate behind it.
+pub record IsTooLarge (old : List ℕ) (edits : List Edit) (area : ℕ) : Type 0 where
   pub format : Format
   pub image : List (List Record)
-  pub is_image_of : IsImageOf format old image
+  pub is_image_of : IsImageOf format old edits image
   pub over : area < length (row (map spelling image)) + 1
 
+-- Why the settled content could not be had with the edits made: as why a store could not be read,
+-- or where an edit is refused so.
+abbrev pub IsSettleRefusal : Type 0 → Type 0 → (ℕ → Type 0) → (Refusal → Type 0) → Refusal → Type 0
+IsSettleRefusal is_risen no_head is_damaged is_uneditable Refusal.NoSuchCollection =
+    is_uneditable Refusal.NoSuchCollection
+IsSettleRefusal is_risen no_head is_damaged is_uneditable Refusal.BadName =
+    is_uneditable Refusal.BadName
+IsSettleRefusal is_risen no_head is_damaged is_uneditable Refusal.TooLong =
+    is_uneditable Refusal.TooLong
+IsSettleRefusal is_risen no_head is_damaged is_uneditable Refusal.NameTaken =
+    is_uneditable Refusal.NameTaken
+IsSettleRefusal is_risen no_head is_damaged is_uneditable e =
+    IsFindRefusal is_risen no_head is_damaged e
+
 -- When each answer of a copy comes.
-abbrev pub IsCopyAnswer : Type 0 → Type 0 → Type 0 → (ℕ → Type 0) → Type 0 →
+abbrev pub IsCopyAnswer : Type 0 → Type 0 → Type 0 → (ℕ → Type 0) → (Refusal → Type 0) → Type 0 →
     Result (Unit {0}) Refusal → Type 0
-IsCopyAnswer is_room is_risen no_head is_damaged is_too_large (Ok done) = is_room
-IsCopyAnswer is_room is_risen no_head is_damaged is_too_large (Err Refusal.BadArg) = is_room → ⊥
-IsCopyAnswer is_room is_risen no_head is_damaged is_too_large (Err e) =
-    is_room × IsOpenRefusal is_risen no_head is_damaged is_too_large e
+IsCopyAnswer is_room is_risen no_head is_damaged is_uneditable is_too_large (Ok done) = is_room
+IsCopyAnswer is_room is_risen no_head is_damaged is_uneditable is_too_large (Err Refusal.BadArg) =
+    is_room → ⊥
+IsCopyAnswer is_room is_risen no_head is_damaged is_uneditable is_too_large (Err Refusal.Full) =
+    is_room × is_too_large
+IsCopyAnswer is_room is_risen no_head is_damaged is_uneditable is_too_large (Err e) =
+    is_room × IsSettleRefusal is_risen no_head is_damaged is_uneditable e

@@ -4,6 +4,8 @@ pub mod Openings
 pub mod Loading
 pub mod Finding
 pub mod Refusals
+pub mod Edits
+pub mod Kept
 pub mod Copies
 pub mod Surveys
 pub mod Upgrades

@@ -39,7 +39,7 @@ pub record IsFlippedTo (area : Area) (old new : List ℕ) : Type 0 where
 -- use. The next number and the wear are those of the opening. All else is as the opening left it.
 pub record IsRewritten (old : List ℕ) (area : Area) (between new : List ℕ) : Type 0 where
   pub image : List (List Record)
-  pub is_image_of : IsImageOf Format.Two old image
+  pub is_image_of : IsImageOf Format.Two old [] image
   pub other : Area
   pub is_other : IsOther area other
   pub row_is : IsRow (map spelling image) (bytes_of other new)
@@ -71,7 +71,7 @@ pub record HasNoRoomForImage (old : List ℕ) : Type 0 where
   pub version : Format
   pub size : ℕ
   pub header : IsHeader version size old
-  pub large : IsTooLarge old size
+  pub large : IsTooLarge old [] size
 
 -- There is no room for the records of the undoing, or none for the image.
 abbrev pub HasNoRoomToUpgrade : List ℕ → Type 0

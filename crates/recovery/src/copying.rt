@@ -11,9 +11,11 @@ ghost use Rattle.checkpoint.specs.Imaging.{IsTooLong, IsBeingLaid, bodies_of, le
 ghost use Rattle.recovery.specs.Heads.{HasHeader, HasNoHeader};
 ghost use Rattle.recovery.specs.Openings.{IsDamagedAt};
 ghost use Rattle.recovery.specs.Formatting.{IsRoomFor, IsMaking, IsShut};
+ghost use Rattle.recovery.specs.Edits.{IsUneditable};
 ghost use Rattle.recovery.specs.Copies.{IsFilledWith, IsStoreOf, IsCopyOf};
 ghost use Rattle.recovery.specs.Copies.{IsTooLarge, IsCopyAnswer};
 
+use crate::editing::Edit;
 use crate::formatting::{is_room_for, write_head};
 use crate::settling::settled_image;
 use calls::{Format, Refusal};
@@ -32,6 +34,10 @@ use std::alloc::Global;
 /// format 2, head and area, where the area in use of the old disk is or the new areas are over 2^30
 /// bytes, and else of format 1.
 ///
+/// The edits are made of that content first, one after another, in their order: each leaves a
+/// collection out or gives it another name, and sees the names that those before it left. The
+/// others keep their names and their order. With no edits the copy has all of it.
+///
 /// The gate of the new disk's head is closed and synced first, and opened last. A stop at any
 /// moment of the call, with the new disk at rest before it, leaves there the old bytes with any
 /// value for the gate of the head, or no store, or the copy.
@@ -41,13 +47,16 @@ use std::alloc::Global;
 ///
 /// Refused BadArg where the area is below 65,536 or over 2^36 bytes, or where the new disk has
 /// another size than 4096 and two areas, with no disk touched; NotAStore and Damaged as `inspect`
-/// says; NoMemory; Full where an area has no room for the image and a closed gate behind it; Fault
+/// says; for the first edit that cannot be made NoSuchCollection where its collection is not there,
+/// and then for a new name BadName and TooLong as `check_name` says and NameTaken where it is
+/// there; NoMemory; Full where an area has no room for the image and a closed gate behind it; Fault
 /// where one of the disks failed. Each leaves the new disk as it was, but a Fault of that disk.
 pub fn copy<D: Disk, E: Disk>(
     alloc: Global,
     old: &mut D,
     new: &mut E,
     area: u64,
+    edits: &[Edit],
 ) -> Result<(), Refusal>
     // What it answers, of a disk that read true.
     ensures answer { IsCopyAnswer (IsRoomFor Format.Two area (length (E.seen new.old)))
@@ -55,16 +64,18 @@ pub fn copy<D: Disk, E: Disk>(
         Rises (E.fault_count new.old) (E.fault_count new.new))
         (D.is_honest old.new → HasNoHeader (D.seen old.old))
         (λ place. D.is_honest old.new → IsDamagedAt (D.seen old.old) place)
-        (D.is_honest old.new → IsTooLarge (D.seen old.old) area) result }
+        (λ e. D.is_honest old.new → IsUneditable (D.seen old.old) edits.now e)
+        (D.is_honest old.new → IsTooLarge (D.seen old.old) edits.now area) result }
     ensures starved { IfErr result (λ e. e ≡ Refusal.NoMemory → D.is_honest old.new →
         HasHeader (D.seen old.old)) }
     ensures copied { OnOk result (D.is_honest old.new →
-        IsCopyOf (D.seen old.old) area (E.seen new.new)) }
+        IsCopyOf (D.seen old.old) edits.now area (E.seen new.new)) }
     ensures durable { OnOk result (IsAtRest E.seen E.may_leave new.new) }
     // What a stop leaves of the new disk.
     ensures stop { IsAtRest E.seen E.may_leave new.old →
         LeavesOnly E.moment E.left_since new.old new.new (IsMaking
-        (λ bytes. D.is_honest old.new → IsCopyOf (D.seen old.old) area bytes) (E.seen new.old)) }
+        (λ bytes. D.is_honest old.new → IsCopyOf (D.seen old.old) edits.now area bytes)
+        (E.seen new.old)) }
     // What is left as it was.
     ensures reads { ReadsOnly D.seen D.may_leave D.moment D.left_since old.old old.new }
     ensures bad_arg { IsErrOf result Refusal.BadArg → old.new ≡ old.old }
@@ -79,7 +90,7 @@ pub fn copy<D: Disk, E: Disk>(
     if !is_room_for(new, Format::Two, area) {
         return Err(Refusal::BadArg);
     }
-    let (image, version) = settled_image(alloc, old, area)?;
+    let (image, version) = settled_image(alloc, old, area, edits)?;
     if is_too_long(&image, area) {
         return Err(Refusal::Full);
     }

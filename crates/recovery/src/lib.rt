@@ -3,6 +3,7 @@
 #![tactic(auto)]
 
 mod copying;
+mod editing;
 mod finding;
 mod formatting;
 mod freezing;
@@ -15,6 +16,7 @@ mod settling;
 mod upgrading;
 
 pub use copying::copy;
+pub use editing::Edit;
 pub use finding::{Found, find};
 pub use formatting::{format, format_as};
 pub use freezing::image_blocks;

@@ -19,6 +19,8 @@ use Rattle.group_commit.specs.declared.mark.Raised.{Raised}
 use Rattle.group_commit.specs.Marks.{KeeperMark, top}
 use Rattle.desks.specs.declared.naming.Naming.{Ghosts}
 use Rattle.desks.specs.Desks.{AreRecorded, frozen_ends}
+use Rattle.engine.specs.Rooms.{IsRoomOf}
+use Rattle.engine.specs.declared.room.Room.{Room}
 
 -- Whatever a stop at any moment since the opening might have left has P. Of a run that began
 -- earlier it might have left that already when the store was open.
@@ -71,3 +73,13 @@ pub record IsVault {J D : Type 0} (j : Ghosts J) (g : disks.Ghosts D) (keeper : 
   pub caused : 1 ≤ seat.stops → keeper.failed ≡ true
   pub noted : near.gather.frozen ≢ None → Among near.gather receiver.noted
   pub received : j.sound → ReceivesAny j g receiver.noted receiver.received seat.raised keeper
+
+-- The room of a keeper that lies under the keeper's lock.
+pub record IsRoomUnderLock {J D : Type 0} (j : Ghosts J) (g : disks.Ghosts D) (room : Room) :
+    Type 0 where
+  pub keeper : KeeperState D
+  pub receiver : ReceiverState
+  pub seat : KeeperMark
+  pub near : AccordState
+  pub vault : IsVault j g keeper receiver seat near
+  pub room_of : IsRoomOf keeper room

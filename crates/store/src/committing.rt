@@ -1,6 +1,8 @@
 // Committers of a store.
 ghost use Rattle.std.specs.Prelude.{◌≡◌, ◌+◌, IfErr};
+ghost use Rattle.engine.specs.declared.room.Room.{Room};
 ghost use Rattle.store.specs.Turns.{TurnTells, IsTurnRefusal};
+ghost use Rattle.store.specs.Vaults.{IsRoomUnderLock};
 
 use crate::vault::Vault;
 use calls::Refusal;
@@ -90,8 +92,12 @@ impl<'s, D: Disk, J: Naming, B: Coded> Committer<'s, D, J, B> {
         told(cut.err(), turned)
     }
 
-    /// How many bytes the area in use has behind its blocks. It takes the keeper's lock.
-    pub fn free<R: Wait>(&self, rt: &R) -> u64 {
+    /// How many bytes the area in use has behind its blocks, at a moment of the call. It takes the
+    /// keeper's lock.
+    pub fn free<R: Wait>(&self, rt: &R) -> u64
+        ensures { (room : Room) × IsRoomUnderLock ⟦<J as Naming>⟧ ⟦<D as Disk>⟧ room ×
+            (result ≡ room.free) }
+    {
         let vault = self.vault;
         lock_next(rt, vault, &mut Order::new()).room().free
     }

@@ -1,6 +1,8 @@
 // What is gathered of the book for an image, up to where the keeper begins it.
-ghost use Rattle.std.specs.Prelude.{◌≡◌, ◌≢◌, ◌<◌, ◌⊎◌, ◌↔◌, None, Err, OnOk, OnErr, IfOk, IfErr};
-ghost use Rattle.std.specs.Prelude.{IsSome, IsTrue, IfSome, IfNone, Result, length, string_bytes};
+ghost use Rattle.std.specs.Prelude.{◌≡◌, ◌≢◌, ◌<◌, ◌⊎◌, ◌↔◌, None, Some, Err, OnOk, OnErr, IfOk};
+ghost use Rattle.std.specs.Prelude.{IfErr, IsNone, slice_get, IsSome, IsTrue, IfSome, IfNone};
+ghost use Rattle.std.specs.Prelude.{Result, length, string_bytes};
+ghost use Rattle.std.specs.Option.{option_map};
 ghost use Rattle.calls.specs.Names.{IsName};
 ghost use Rattle.calls.specs.declared.refusal.Refusal.{Refusal};
 ghost use Rattle.catalog.specs.declared.four.Four.{Four};
@@ -208,8 +210,9 @@ impl<J: Naming, B: Coded> Gatherer<J, B> {
         }
     }
 
-    // Copies the next collection, if one is left: the refusals of `Journal::gather`. The journal's
-    // side knows what is gathered then.
+    // Finds the next collection, if one is left, under the journal's lock, and copies it under its
+    // shelf's and the journal's: the refusals of `Journal::gather`. The journal's side knows what
+    // is gathered then.
     fn copy_next<R: Wait>(
         &mut self,
         rt: &R,
@@ -223,34 +226,11 @@ impl<J: Naming, B: Coded> Gatherer<J, B> {
         ensures unfrozen { self.new.gather.frozen ≡ None }
         ensures refused { IfErr result IsCopyRefusal }
     {
-        for _ in rt.forever() {
-            if let Some(copied) = self.try_copy(rt, shared, shelves, desk, order) {
-                return copied;
-            }
-        }
-        unreachable!()
-    }
-
-    // Finds the next collection under the journal's lock, and copies it under its shelf's. None
-    // where another collection has its number by then.
-    fn try_copy<R: Wait>(
-        &mut self,
-        rt: &R,
-        shared: &Shared<J>,
-        shelves: &Shelves<J, B>,
-        desk: &Lock<Desk<J, B>>,
-        order: Order,
-    ) -> Option<Result<bool, Refusal>>
-        requires unfrozen { self.old.gather.frozen ≡ None }
-        requires order { order < 3 }
-        ensures unfrozen { self.new.gather.frozen ≡ None }
-        ensures refused { IfSome result (λ r. IfErr r IsCopyRefusal) }
-    {
         let mut finding = order;
         let found = self.find_next(shared, &mut desk.lock(rt, &mut finding));
         match found {
             Ok(next) => self.copy_at(rt, shared, shelves, desk, &next, order),
-            Err(gathered) => Some(gathered),
+            Err(gathered) => gathered,
         }
     }
 
@@ -262,7 +242,10 @@ impl<J: Naming, B: Coded> Gatherer<J, B> {
         desk: &mut Desk<J, B>,
     ) -> Result<Next, Result<bool, Refusal>>
         requires { self.old.gather.frozen ≡ None }
+        ensures same { OnOk result (self.new ≡ self.old) }
         ensures number { IfOk result (λ next. next.at ≡ length self.new.gather.parts) }
+        ensures found { IfOk result (λ next. slice_get desk.new.names next.at ≡
+            Some (string_bytes next.name)) }
         ensures name { IfOk result (λ next. IsName (string_bytes next.name)) }
         ensures unfrozen { self.new.gather.frozen ≡ None }
         ensures refused { IfErr result (λ r. IfErr r IsCopyRefusal) }
@@ -290,13 +273,13 @@ impl<J: Naming, B: Coded> Gatherer<J, B> {
         desk: &Lock<Desk<J, B>>,
         next: &Next,
         order: Order,
-    ) -> Option<Result<bool, Refusal>>
+    ) -> Result<bool, Refusal>
         requires order { order < 3 }
         requires number { next.now.at ≡ length self.old.gather.parts }
         requires name { IsName (string_bytes next.now.name) }
         requires unfrozen { self.old.gather.frozen ≡ None }
         ensures unfrozen { self.new.gather.frozen ≡ None }
-        ensures refused { IfSome result (λ r. IfErr r IsCopyRefusal) }
+        ensures refused { IfErr result IsCopyRefusal }
     {
         if next.at % 4 == 0 {
             return self.copy_on(rt, shared, shelves, &shelves.first, desk, next, order);
@@ -311,7 +294,8 @@ impl<J: Naming, B: Coded> Gatherer<J, B> {
     }
 
     // Copies the collection under the lock of this shelf, once those who wait for it have had it.
-    // The journal's lock is taken behind that.
+    // The journal's lock is taken behind that. Where the number is another collection's by then, it
+    // is copied under both.
     fn copy_on<Q: Quarter, R: Wait>(
         &mut self,
         rt: &R,
@@ -321,21 +305,49 @@ impl<J: Naming, B: Coded> Gatherer<J, B> {
         desk: &Lock<Desk<J, B>>,
         next: &Next,
         order: Order,
-    ) -> Option<Result<bool, Refusal>>
+    ) -> Result<bool, Refusal>
         requires order { order < 3 }
         requires place { which_of next.now.at ≡ Q.which }
         requires number { next.now.at ≡ length self.old.gather.parts }
         requires name { IsName (string_bytes next.now.name) }
         requires unfrozen { self.old.gather.frozen ≡ None }
         ensures unfrozen { self.new.gather.frozen ≡ None }
-        ensures refused { IfSome result (λ r. IfErr r IsCopyRefusal) }
+        ensures refused { IfErr result IsCopyRefusal }
     {
         shelf.give_way(rt);
         let mut order = order;
         let mut held = shelf.lock(rt, &mut order);
         let part = held.copy(next.at, &next.name);
         let mut desk = desk.lock(rt, &mut order);
-        self.gather_copy(shared, shelves, &mut held, &mut desk, next, part)
+        match self.gather_copy(shared, shelves, &mut held, &mut desk, next, part) {
+            Some(copied) => copied,
+            None => self.copy_held(shared, shelves, &mut held, &mut desk),
+        }
+    }
+
+    // Finds the next collection, which is on the shelf that is held, and copies it, under both
+    // locks.
+    fn copy_held<Q: Quarter>(
+        &mut self,
+        shared: &Shared<J>,
+        shelves: &Shelves<J, B>,
+        held: &mut ShelfDesk<J, B, Q>,
+        desk: &mut Desk<J, B>,
+    ) -> Result<bool, Refusal>
+        requires place { which_of (length self.old.gather.parts) ≡ Q.which }
+        requires unfrozen { self.old.gather.frozen ≡ None }
+        ensures unfrozen { self.new.gather.frozen ≡ None }
+        ensures refused { IfErr result IsCopyRefusal }
+    {
+        let next = match self.find_next(shared, desk) {
+            Ok(next) => next,
+            Err(gathered) => return gathered,
+        };
+        let part = held.copy(next.at, &next.name);
+        match self.gather_copy(shared, shelves, held, desk, &next, part) {
+            Some(copied) => copied,
+            None => unreachable!(),
+        }
     }
 
     // Goes on with the copy of a collection of the shelf that is held. None, with nothing changed,
@@ -358,6 +370,9 @@ impl<J: Naming, B: Coded> Gatherer<J, B> {
         requires unfrozen { self.old.gather.frozen ≡ None }
         ensures unfrozen { self.new.gather.frozen ≡ None }
         ensures refused { IfSome result (λ r. IfErr r IsCopyRefusal) }
+        ensures none { IsNone result → self.new ≡ self.old }
+        ensures there { slice_get desk.old.names next.now.at ≡ Some (string_bytes next.now.name) →
+            IsSome result }
     {
         if !desk.journal.is_at(&next.name, next.at) {
             return None;
@@ -466,6 +481,8 @@ fn next_of<B: Coded>(
     gather: &Gather<B::Part>,
 ) -> Result<Next, Result<Option<B::Part>, Refusal>>
     ensures number { IfOk result (λ next. next.at ≡ length gather.now.parts) }
+    ensures found { IfOk result (λ next. option_map (λ x. x.name)
+        (slice_get (B.Names.labels journal.now.names) next.at) ≡ Some (string_bytes next.name)) }
     ensures name { IfOk result (λ next. IsName (string_bytes next.name)) }
     ensures copied { IfErr result (λ part. (f : Four (ShelfState B.Shelf)) →
         CanGoOn journal.now.gathering gather.now → IfOk part (IsCopy B.Names.labels B.Shelf.holds

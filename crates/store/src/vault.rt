@@ -5,7 +5,7 @@ ghost use Rattle.group_commit.specs.Marks.{new_keeper};
 ghost use Rattle.store.specs.Turns.{Brings, TurnTells, CheckTells, brought_to, flipped_to, Fails};
 ghost use Rattle.store.specs.Turns.{FailsWith, stops_by, stops_behind};
 ghost use Rattle.store.specs.Turns.{Reaches, IsTurnRefusal, IsCheckRefusal};
-ghost use Rattle.store.specs.Vaults.{ReceivesAny};
+ghost use Rattle.store.specs.Vaults.{IsRoomUnderLock, ReceivesAny};
 ghost use Rattle.group_commit.specs.Rising.{raised_to};
 
 use crate::checkpointing::Checkpoint;
@@ -73,7 +73,9 @@ impl<D: Disk, J: Naming> Vault<D, J> {
     }
 
     /// Where the next block would go.
-    pub(crate) fn room(&self) -> Room {
+    pub(crate) fn room(&self) -> Room
+        ensures { IsRoomUnderLock ⟦<J as Naming>⟧ ⟦<D as Disk>⟧ result }
+    {
         Room::of(&self.keeper)
     }
 

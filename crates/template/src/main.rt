@@ -4,7 +4,7 @@
 
 use fizgaloms::{
     AllocGlobal, Attempt, Call, Client, Clock, Kind, MIN_AREA, Naming, Refusal, Reply, StoreFile,
-    Transaction, Wait, Work, keep, open_or_format, open_or_make,
+    Ticket, Transaction, Wait, Work, keep, open_or_format, open_or_make,
 };
 
 // A transaction that adds one to the counter. Answers what it holds then.
@@ -22,21 +22,24 @@ impl Transaction for Count {
     }
 }
 
-// What each thread does.
+// What each thread does: it answers what it counted, with the ticket of the commit, which is kept.
 struct Counting;
 
 impl Work for Counting {
-    type Output = Result<i128, Refusal>;
+    ghost use Rattle.fizgaloms.specs.Works.{IsKeptSo};
+
+    type Output = Result<(i128, Ticket), Refusal>;
+
+    ghost says = { λ _ _ _ answer known. IsKeptSo known answer };
 
     fn work<J: Naming, R: Wait + Clock + AllocGlobal>(
         &self,
         rt: &R,
         client: &mut Client<'_, J>,
         _thread: usize,
-    ) -> Result<i128, Refusal> {
+    ) -> Result<(i128, Ticket), Refusal> {
         open_or_make(rt, client, "runs", Kind::Counter)?;
-        let (runs, _ticket) = keep(rt, client, &Count)?;
-        Ok(runs)
+        keep(rt, client, &Count)
     }
 }
 
@@ -44,7 +47,7 @@ fn main(rt: HostRuntime) -> anyhow::Result<()> {
     let disk: StoreFile = open_or_format(&rt, "template.disk", MIN_AREA)?;
     let (answers, _closed) = fizgaloms::run(&rt, disk, &Counting, 1);
     for runs in answers? {
-        println!(rt; "run {} of this store", runs?)?;
+        println!(rt; "run {} of this store", runs?.0)?;
     }
     Ok(())
 }

@@ -1,6 +1,7 @@
 -- A book in parts: what its journal keeps, and four shelves. A step on one shelf says what it is of
 -- the book whatever the other shelves are.
 use Rattle.std.specs.Prelude.{◌≡◌, ◌≢◌, ℕ, ◌+◌, ◌<◌, List, [], ◌∷◌, ◌++◌, length, OnOk, Result}
+use Rattle.std.specs.Prelude.{Ok, Err}
 use Rattle.std.specs.List.{AllByRecursion}
 use Rattle.calls.specs.declared.refusal.Refusal.{Refusal}
 use Rattle.calls.specs.Contents.{Collection}
@@ -132,6 +133,11 @@ abbrev pub SettlesMade : {S : Type 0} → Meaning S ℕ → Making S → List �
     BookState S → Type 0
 SettlesMade {S} meaning making name kind b c = (s : S) → IsSettled meaning b.state s →
     (t : S) × making.makes s name kind t × IsSettled meaning c.state t
+
+-- what the entering of a number was answered, without the slot that it gives
+abbrev pub entered : Result ℕ Refusal → Result (Unit {0}) Refusal
+entered (Ok slot) = Ok tt
+entered (Err e) = Err e
 
 module _ {S : Type 0} (meaning : Meaning S ℕ) (making : Making S)
     (collections : S → List Collection) where

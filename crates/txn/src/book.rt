@@ -204,7 +204,8 @@ impl<B: Parts + Coded> Book<B> {
         ensures notes { OnOk result (Notes B.meaning self.old (Action.Enter number result)
             self.new) }
     {
-        self.journal.enter(number)
+        self.journal.enter(number)?;
+        Ok(())
     }
 
     /// What the transaction asks of a collection, under the need that the call has with its reply:

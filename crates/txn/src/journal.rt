@@ -15,7 +15,7 @@ ghost use Rattle.txn.specs.declared.actions.Action.{Action};
 ghost use Rattle.txn.specs.Books.{CutAnswers};
 ghost use Rattle.txn.specs.Rows.{RunRefused, CanEnter, EnterRefused};
 ghost use Rattle.txn.specs.Shelved.{opened_journal, journal_lsn, standing_of, IsJournal};
-ghost use Rattle.txn.specs.Shelved.{LeadsBeside, Serves, Settles};
+ghost use Rattle.txn.specs.Shelved.{LeadsBeside, Serves, Settles, entered};
 ghost use Rattle.txn.specs.Undoings.{undo_count};
 
 use crate::undoing::count_journalled;
@@ -219,22 +219,22 @@ impl<B: Parts + Coded> Journal<B> {
         self.names.kind(at)
     }
 
-    /// Makes the number live.
+    /// Makes the number live, and answers the slot of its transaction, for its handle.
     ///
     /// BadArg for 0 and from 2^61 on, AlreadyLive, TooManyLive where 64 are live, Worn where the
     /// wear is 2^61 or more, Backlog, NoMemory.
-    pub fn enter(&mut self, number: u64) -> Result<(), Refusal>
+    pub fn enter(&mut self, number: u64) -> Result<usize, Refusal>
         requires kept { IsJournal B.meaning B.making B.collections B.whole B.fits self.old }
         ensures { LeadsBeside B.meaning B.making B.collections B.whole B.fits
-            (Serves B.meaning B.making B.collections (Action.Enter number) result) self.old
-            self.new }
+            (Serves B.meaning B.making B.collections (Action.Enter number) (entered result))
+            self.old self.new }
     {
         self.check_enter(number)?;
         self.pending.reserve(MARK_LEN)?;
-        self.transactions.begin(number)?;
+        let handle = self.transactions.begin(number)?;
         self.pending.push(Record::Begin(number));
         self.next = self.next.max(number + 1);
-        Ok(())
+        Ok(handle.slot)
     }
 
     /// Hands the first pending records over as one block, as many whole ones as fit in 65,535 bytes

@@ -1,10 +1,11 @@
 // Commands that are carried out on the disk of a case.
 use crate::plays::disks::bytes_of;
 use crate::plays::told::Told;
-use crate::plays::values::{area_and_version, numbers};
+use crate::plays::values::{area_and_version, not_understood, number, pair};
 use crate::plays::workbench::Workbench;
 use crate::plays::{talked, through_store};
-use boost::{Task, run, run_copy};
+use boost::{Edit, Task, run, run_copy};
+use calls::Name;
 use disk_model::{Disk, MemDisk};
 use std::alloc::Global;
 use std::io;
@@ -28,27 +29,10 @@ impl Ran {
         told.tell_last(text(&self.err), usize::MAX, "! ");
     }
 
-    /// Tells its status, of what it printed each client, each client's end and each line that was
-    /// refused Backlog, and each line of its errors behind a mark.
-    pub fn tell_ends(&self, told: &mut Told) {
-        told.tell(format_args!("= {}", self.status));
-        for line in text(&self.out).lines() {
-            if is_of_end(line) {
-                told.tell(line);
-            }
-        }
-        told.tell_last(text(&self.err), usize::MAX, "! ");
-    }
-
     /// Whether another run ended alike: with the same status and errors.
     pub fn is_alike(&self, other: &Ran) -> bool {
         self.status == other.status && self.err == other.err
     }
-}
-
-// Whether a line that is printed names a client, tells its end, or was refused Backlog.
-fn is_of_end(line: &str) -> bool {
-    line.starts_with("c") || line.starts_with("end: ") || line.ends_with("Backlog")
 }
 
 /// What was printed, as a text.
@@ -121,21 +105,34 @@ pub fn run_on<D: Disk>(alloc: Global, task: Task, disk: D, script: &[u8]) -> (Ra
     (Ran { status, out, err }, disk)
 }
 
-/// Copies the store of a disk to another one, with areas of so many bytes. Answers both disks
-/// behind what that answered.
-pub fn copy_on<D: Disk, N: Disk>(alloc: Global, old: D, new: N, area: u64) -> (Ran, D, N) {
+/// Copies the store of a disk to another one, with areas of so many bytes and these edits. Answers
+/// both disks behind what that answered.
+pub fn copy_on<D: Disk, N: Disk>(
+    alloc: Global,
+    old: D,
+    new: N,
+    area: u64,
+    edits: &[Edit],
+) -> (Ran, D, N) {
     let (mut out, mut err) = (Vec::new(alloc), Vec::new(alloc));
-    let (status, old, new) = run_copy(alloc, old, new, area, &mut out, &mut err);
+    let (status, old, new) = run_copy(alloc, old, new, area, edits, &mut out, &mut err);
     (Ran { status, out, err }, old, new)
 }
 
-/// Copies the store of the case to a disk of so many zeros, with areas of so many bytes, and tells
-/// what that answered. The new disk is that of the case from then on, where the store was copied.
+/// Copies the store of the case to a disk of so many zeros, with areas of so many bytes and the
+/// edits behind them, and tells what that answered. The new disk is that of the case from then on,
+/// where the store was copied.
 pub fn copy(alloc: Global, bench: &mut Workbench, text: &str, told: &mut Told) -> io::Result<()> {
-    let (size, area) = numbers(text)?;
+    let (size, rest) = pair(text, " ")?;
+    let size = number(size)?;
+    let (area, edits) = match rest.split_once(" ") {
+        Some((area, edits)) => (number(area)?, edits_of(alloc, edits)?),
+        None => (number(rest)?, Vec::new(alloc)),
+    };
     let before = bench.bytes(alloc)?;
     let old = bench.take_disk(alloc)?;
-    let (ran, old, new) = copy_on(alloc, old, MemDisk::new(alloc, size)?, area);
+    let new = MemDisk::new(alloc, size)?;
+    let (ran, old, new) = copy_on(alloc, old, new, area, edits.as_slice());
     bench.put_back(old);
     ran.tell(bench.take_last(), told);
     if bench.bytes(alloc)? != before {
@@ -145,6 +142,34 @@ pub fn copy(alloc: Global, bench: &mut Workbench, text: &str, told: &mut Told) -
         bench.put_back(new);
     }
     Ok(())
+}
+
+// Edits of a copy, each behind a `; `.
+fn edits_of(alloc: Global, text: &str) -> io::Result<Vec<Edit>> {
+    let mut edits = Vec::new(alloc);
+    for edit in text.split("; ") {
+        edits.push(edit_of(alloc, edit)?)?;
+    }
+    Ok(edits)
+}
+
+// An edit: `without NAME` or `rename NAME OTHER`.
+fn edit_of(alloc: Global, text: &str) -> io::Result<Edit> {
+    let (word, names) = pair(text, " ")?;
+    match word {
+        "without" => Ok(Edit::Without(name_of(alloc, names)?)),
+        "rename" => {
+            let (from, to) = pair(names, " ")?;
+            let (from, to) = (name_of(alloc, from)?, name_of(alloc, to)?);
+            Ok(Edit::Rename { from, to })
+        }
+        _ => Err(not_understood()),
+    }
+}
+
+// The name that a text spells.
+fn name_of(alloc: Global, text: &str) -> io::Result<Name> {
+    Ok(Name::new(String::from_str(alloc, text)?))
 }
 
 /// Formats the disk of the case, with areas of so many bytes, in the format of the number behind

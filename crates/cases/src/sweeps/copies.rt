@@ -63,7 +63,7 @@ fn fail_reads(alloc: Global, old: &[u8], new: &[u8], area: u64, told: &mut Told)
 fn fail_read(alloc: Global, old: &[u8], new: &[u8], area: u64, k: u64) -> io::Result<(bool, bool)> {
     let mut from = at_rest(alloc, old)?;
     from.fail_at(k);
-    let (ran, from, to) = copy_on(alloc, from, at_rest(alloc, new)?, area);
+    let (ran, from, to) = copy_on(alloc, from, at_rest(alloc, new)?, area, &[]);
     let is_reached = from.faults() > 0;
     let is_told = text(&ran.err) == "boost: refused 19 Fault\n" && ran.out.is_empty();
     let is_old_same = bytes_of(alloc, from.stop(&[]))?.as_slice() == old;

@@ -361,7 +361,7 @@ fn stop_copying(
 ) -> io::Result<(bool, String)> {
     let mut disk = disk;
     disk.fail_at(k);
-    let (_, from, disk) = copy_on(alloc, at_rest(alloc, old)?, disk, area);
+    let (_, from, disk) = copy_on(alloc, at_rest(alloc, old)?, disk, area, &[]);
     let is_reached = disk.faults() > 0;
     let (found, _) = run_on(alloc, to_show(alloc), disk.stop(picks), &[]);
     let end = if bytes_of(alloc, from)?.as_slice() == old {

@@ -16,6 +16,10 @@ returns c =
     c.path-2.ensures.alone in
     let sized = adds _ _ _ _ _ c.in_ok-arg-3.ensures both c.area_of_copy.ensures.rule
     c.area_of_copy.ensures.alone in
-    IfOk-weaker c.arg-4.result _ _
-    (λ whole h. adds _ whole _ _ _ h sized c.group.ensures.rule c.group.ensures.alone)
-    c.arg-4.ensures
+    let shared = adds _ _ _ _ _ c.in_ok-arg-4.ensures sized c.group.ensures.rule
+    c.group.ensures.alone in
+    let less = adds _ _ _ _ _ c.in_ok-arg-5.ensures shared c.without.ensures.rule
+    c.without.ensures.alone in
+    IfOk-weaker c.arg-6.result _ _
+    (λ whole h. adds _ whole _ _ _ h less c.rename.ensures.rule c.rename.ensures.alone)
+    c.arg-6.ensures

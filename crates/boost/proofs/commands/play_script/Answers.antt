@@ -1,12 +1,11 @@
-use Rattle.std.proofs.Common.{◌≡◌, refl}
-use Rattle.boost.proofs.EffectLemmas.{unopened, unplayed_leaves, script_played}
+use Rattle.std.proofs.Common.{◌≡◌, inl, refl}
+use Rattle.boost.proofs.EffectLemmas.{unopened, script_played}
 use Rattle.boost.proofs.EffectLemmas.{store_unplayed, script_unplayed}
 use Rattle.boost.proofs.commands.play_script.Goals as goal
 
 pub returns-in-Err-clause-left : goal.returns-in-Err-clause-left
 returns-in-Err-clause-left g c = λ honest.
-    unplayed_leaves g.D.Disk c.args.disk c.args.script.now c.args.disk honest
-    (unopened g.D.Disk c.args.disk (g.met.D.Disk.only_now c.args.disk))
+    inl (unopened g.D.Disk c.args.disk (g.met.D.Disk.only_now c.args.disk))
 
 pub returns-in-Err-clause-why : goal.returns-in-Err-clause-why
 returns-in-Err-clause-why g c =

@@ -16,16 +16,13 @@ returns-in_err-wait-clause-keeps g c =
           goes.1 c.in_err-wait.ensures,
     )
 
-pub returns-clause-committed : goal.returns-clause-committed
-returns-clause-committed g c =
-    let place = c.in_ok-output.ticket.place in
-    committed_still c.seek.new.client c.wait.new.self place place _ c.in_ok-wait.ensures
-    c.in_ok-output.ensures.committed
-
 pub returns-clause-kept : goal.returns-clause-kept
 returns-clause-kept g c =
-    was_told_kept c.seek.new.client c.wait.new.self c.in_ok-output.ticket.place
-    c.in_ok-wait.ensures
+    let place = c.in_ok-output.ticket.place in (
+      committed_still c.seek.new.client c.wait.new.self place place _ c.in_ok-wait.ensures
+          c.in_ok-output.ensures.committed,
+      was_told_kept c.seek.new.client c.wait.new.self place c.in_ok-wait.ensures,
+    )
 
 pub returns-clause-keeps : goal.returns-clause-keeps
 returns-clause-keeps g c =

@@ -13,16 +13,13 @@ returns-in_err-wait-clause-keeps g c =
     c.from_residual-in_err-wait.result p.0 c.in_err-wait.field-0.0 p.1 p.2
     c.in_ok-output.ensures.goes c.in_err-wait.ensures
 
-pub returns-clause-committed : goal.returns-clause-committed
-returns-clause-committed g c =
-    let place = c.in_ok-output.ticket.place in
-    committed_still c.try_within.new.client c.wait.new.self place place _ c.in_ok-wait.ensures
-    c.in_ok-output.ensures.committed
-
 pub returns-clause-kept : goal.returns-clause-kept
 returns-clause-kept g c =
-    was_told_kept c.try_within.new.client c.wait.new.self c.in_ok-output.ticket.place
-    c.in_ok-wait.ensures
+    let place = c.in_ok-output.ticket.place in (
+      committed_still c.try_within.new.client c.wait.new.self place place _ c.in_ok-wait.ensures
+          c.in_ok-output.ensures.committed,
+      was_told_kept c.try_within.new.client c.wait.new.self place c.in_ok-wait.ensures,
+    )
 
 pub returns-clause-keeps : goal.returns-clause-keeps
 returns-clause-keeps g c =

@@ -1,5 +1,6 @@
 use Rattle.std.proofs.Common.{[], Ok, Err, refl, sym, ap, ◌∙◌, subst}
 use Rattle.std.proofs.lemmas.Result.{err_from_is_err_and}
+use Rattle.txn.specs.Shelved.{entered}
 use Rattle.txn.specs.declared.actions.Action.{Action}
 use Rattle.clients.specs.declared.phase.Phase.{Phase}
 use Rattle.desks.specs.Seen.{Steps}
@@ -15,11 +16,11 @@ invariant_of-self-in-Drawn g c =
     let n = c.in-Drawn.number in
     rw c.enter.ensures.drawer (enters_on g.J.Naming i.line c.enter.new.me i.watcher i.drawer i.phase
     c.self.invariant n
-    (subst (λ r. Steps g.J.Naming.origin i.line (Action.Enter n r) c.enter.new.me)
-    c.in_ok-enter-in-Drawn.was c.enter.ensures.step))
+    (subst (λ r. Steps g.J.Naming.origin i.line (Action.Enter n (entered r)) c.enter.new.me)
+    c.in_ok-slot-in-Drawn.was c.enter.ensures.step))
 
-pub returns-in_ok-enter-in-Drawn : goal.returns-in_ok-enter-in-Drawn
-returns-in_ok-enter-in-Drawn g c =
+pub returns-in_ok-slot-in-Drawn : goal.returns-in_ok-slot-in-Drawn
+returns-in_ok-slot-in-Drawn g c =
     let i = c.self.inside in
     let n = c.in-Drawn.number in
     let after = known_of c.enter.new.me i.watcher i.drawer (Phase.Entered n) in
@@ -29,17 +30,18 @@ returns-in_ok-enter-in-Drawn g c =
       refl,
       subst (λ m. Acts g.J.Naming.origin m [] action after) c.self.view_is
           (acts_one g.J.Naming i.line c.enter.new.me i.watcher i.drawer i.phase (Phase.Entered n)
-          action (subst (λ r. Steps g.J.Naming.origin i.line (Action.Enter n r) c.enter.new.me)
-          c.in_ok-enter-in-Drawn.was c.enter.ensures.step)),
+          action (subst (λ r. Steps g.J.Naming.origin i.line (Action.Enter n (entered r))
+          c.enter.new.me)
+          c.in_ok-slot-in-Drawn.was c.enter.ensures.step)),
       refl,
     ))
 
-pub returns-in_err-enter-in-Drawn : goal.returns-in_err-enter-in-Drawn
-returns-in_err-enter-in-Drawn g c =
+pub returns-in_err-slot-in-Drawn : goal.returns-in_err-slot-in-Drawn
+returns-in_err-slot-in-Drawn g c =
     let p = err_from_is_err_and c.from_residual.result c.from_residual.ensures.1 in
     let i = c.self.inside in
     let n = c.in-Drawn.number in
-    let e = c.in_err-enter-in-Drawn.field-0.0 in
+    let e = c.in_err-slot-in-Drawn.field-0.0 in
     let after = known_of c.enter.new.me i.watcher i.drawer i.phase in
     let action = Action.Enter n (Err e) in
     rw (p.1, p.2, c.enter.ensures.drawer)
@@ -47,7 +49,7 @@ returns-in_err-enter-in-Drawn g c =
     (sym (ap (λ (k : Known). k.phase) (sym c.self.view_is) ∙ c.in-Drawn.is)) (
       subst (λ m. Acts g.J.Naming.origin m [] action after) c.self.view_is
           (acts_one g.J.Naming i.line c.enter.new.me i.watcher i.drawer i.phase i.phase action
-          (subst (λ r. Steps g.J.Naming.origin i.line (Action.Enter n r) c.enter.new.me)
-          c.in_err-enter-in-Drawn.was c.enter.ensures.step)),
+          (subst (λ r. Steps g.J.Naming.origin i.line (Action.Enter n (entered r)) c.enter.new.me)
+          c.in_err-slot-in-Drawn.was c.enter.ensures.step)),
       c.in-Drawn.is,
     ))

@@ -1,4 +1,5 @@
 use Rattle.std.proofs.Common.{Some, ap, ◌∙◌}
+use Rattle.txn.specs.Shelved.{entered}
 use Rattle.txn.specs.declared.actions.Action.{Action}
 use Rattle.group_commit.specs.Numbers.{MakerState}
 use Rattle.desks.specs.Touches.{IsJournalDesk}
@@ -8,7 +9,7 @@ use Rattle.desks.proofs.desk.Desk.enter.Given.{Over}
 use Rattle.desks.proofs.desk.Desk.enter.Goals as goal
 
 abbrev action : (g : Over) → goal.After-wake g → Action
-action g c = Action.Enter c.args.number c.enter-entered.result
+action g c = Action.Enter c.args.number (entered c.enter-entered.result)
 
 keeps : (g : Over) (c : goal.After-wake g) →
     IsJournalDesk g.J.Naming g.B.Boosted.meaning g.B.Parts.making g.B.Parts.collections
@@ -22,7 +23,7 @@ keeps g c =
     steps_beside g.J.Naming g.met.B.Coded.told (Some c.args.me.now.number) i.journal i.nears i.seat
     i.sender i.near is c.enter-entered.new.self c.note.new.seat (action g c)
     (entering_follows i.maker c.report.new.maker i.seat c.args.drawer.now c.args.me.now.number
-    c.args.number c.enter-entered.result is.desk.owned c.self.invariant.4 c.report.ensures.maker
+    c.args.number (entered c.enter-entered.result) is.desk.owned c.self.invariant.4 c.report.ensures.maker
     c.report.ensures.of_one c.requires.drawer.1 c.requires.drawn)
     (leads.kept is.shelves is.known.book) served.answer served.goes c.note.ensures.book
 
@@ -38,8 +39,8 @@ invariant_of-self g c =
       ap (λ (m : MakerState). m.from) c.report.ensures.maker ∙ c.self.invariant.2,
       c.self.invariant.3,
       drawn_enters i.maker i.seat c.note.new.seat c.self.invariant.4 c.report.new.maker
-          c.args.drawer.now c.args.me.now.number c.args.number c.enter-entered.result
-          c.report.ensures.maker c.requires.drawer.1 c.requires.drawn c.note.ensures.book,
+          c.args.drawer.now c.args.me.now.number c.args.number
+          (entered c.enter-entered.result) c.report.ensures.maker c.requires.drawer.1 c.requires.drawn c.note.ensures.book,
     )
 
 pub returns-clause-step : goal.returns-clause-step

@@ -1,9 +1,11 @@
-use Rattle.std.proofs.Common.{IfNone, Some, subst, refl}
+use Rattle.std.proofs.Common.{IfNone, IfSome, Some, subst, refl}
 use Rattle.undo_log.specs.Entries.{HasNoCall}
 use Rattle.txn.specs.declared.actions.Action.{Action}
+use Rattle.txn.specs.Shelved.{HasNewestAt, book_state}
 use Rattle.desks.specs.Touches.{IsJournalDesk}
 use Rattle.desks.proofs.Owning.{kept_named}
 use Rattle.desks.proofs.ShelfSteps.{steps_beside, steps_journal, owns_step}
+use Rattle.desks.proofs.Undoing.{none_undone}
 use Rattle.desks.proofs.desk.Desk.find_newest.Given.{Over}
 use Rattle.desks.proofs.desk.Desk.find_newest.Goals as goal
 
@@ -46,3 +48,20 @@ returns-in-None-clause-err g c =
     c.note.new.seat c.self.inside.sender c.self.inside.near c.args.me.now c.note.new.me
     (action g c) (keeps g c) c.note.ensures.book c.note.ensures.client c.note.ensures.seen
     c.note.ensures.mine
+
+pub returns-in-Some-clause-newest : goal.returns-in-Some-clause-newest
+returns-in-Some-clause-newest g c = rw (← c.self.view_is) (subst
+    (λ r. IfSome r (HasNewestAt c.args.handle.number c.self.inside.journal.transactions.entries))
+    c.in-Some.is
+    c.newest.ensures.some)
+
+pub returns-in-None-clause-none : goal.returns-in-None-clause-none
+returns-in-None-clause-none g c =
+    let i = c.self.inside in
+    let is = c.self.invariant.0 in
+    none_undone g.B.Boosted.meaning g.B.Parts.making
+    (book_state g.B.Parts.whole i.journal is.shelves)
+    (book_state g.B.Parts.whole c.back_none-undone.new.self is.shelves) c.args.handle.number
+    c.back_none-undone.result (c.back_none-undone.ensures.told is.shelves is.known.book).answer
+    (subst (λ r. IfNone r (HasNoCall c.args.handle.number i.journal.transactions.entries))
+    c.in-None.is c.newest.ensures.none)

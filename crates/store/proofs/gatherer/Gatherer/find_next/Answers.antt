@@ -1,4 +1,6 @@
-use Rattle.std.proofs.Common.{refl}
+use Rattle.std.proofs.Common.{refl, ◌∙◌}
+use Rattle.std.proofs.lemmas.Option.{slice_get-map}
+use Rattle.catalog.specs.Woven.{Label}
 use Rattle.desks.proofs.Owning.{drawn_beside}
 use Rattle.store.proofs.Copied.{given_none, holds_known}
 use Rattle.store.proofs.gatherer.Gatherer.find_next.Goals as goal
@@ -31,3 +33,11 @@ pub invariant_of-self : goal.invariant_of-self
 invariant_of-self g c = holds_known g.J.Naming c.gather_part.new.far c.self.inside.of_keeper
     c.gather_part.new.gather c.gather_part.ensures.far c.self.invariant.awaited
     c.gather_part.ensures.unfrozen
+
+-- the name stands at the number
+pub returns-in-Ok-clause-found : goal.returns-in-Ok-clause-found
+returns-in-Ok-clause-found g c =
+    let at = c.in-Ok.next.at in
+    let labels = g.B.Names.Named.labels c.desk.inside.journal.names in
+    rw (← c.desk.view_is)
+    (slice_get-map (λ (x : Label). x.name) labels at ∙ c.in-Ok.ensures.found)

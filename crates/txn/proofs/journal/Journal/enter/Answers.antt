@@ -35,7 +35,7 @@ returns g c =
     c.in_ok-check_enter.ensures.ok in
     let reserved = c.in_ok-reserve.ensures in
     rw (← c.self.view_is) (enter_beside g.met.B.Boosted.laws g.met.B.Parts.laws g.met.B.Coded.told
-    g.met.B.Parts.shelf_laws _ _ c.args.number c.in_ok-begin.ensures.ok can.unworn
+    g.met.B.Parts.shelf_laws _ _ c.args.number c.in_ok-handle.ensures.ok can.unworn
     (written i.pending c.reserve.new.self c.push.new.self can.room reserved.records reserved.freezes
     reserved.handed c.push.ensures.records c.push.ensures.freezes c.push.ensures.handed
     (omega arith)
